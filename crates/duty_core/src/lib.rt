@@ -1,0 +1,13 @@
+//! What a driver does, the parameters of a rule book, the marks of a history, and the definitions
+//! of a lawful history.
+#![tactic(auto)]
+
+mod activity;
+mod mark;
+mod memory;
+mod params;
+
+pub use activity::{Activity, is_duty, is_rest};
+pub use mark::{Day, Mark, Minute};
+pub use memory::NoMemory;
+pub use params::{Params, RestWay, allowed, unit_of};
