@@ -26,3 +26,11 @@ drives Serve = false
 drives Wait = false
 drives Off = false
 drives Berth = false
+
+-- whether the activity does nothing of the tour
+abbrev pub idles : Activity → Bool
+idles Drive = false
+idles Serve = false
+idles Wait = true
+idles Off = true
+idles Berth = true

@@ -1,0 +1,4 @@
+pub mod Reach
+pub mod ReachLaws
+pub mod OneOf
+pub mod Machine

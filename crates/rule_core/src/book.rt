@@ -1,0 +1,148 @@
+//! The trait of a rule book, and its laws.
+ghost use Rattle.std.specs.Prelude.{◌≡◌, ◌↔◌, ℕ, ◌+◌, ◌*◌, ◌<◌, ◌≤◌, Bool, true, false, List, [], ◌∷◌, length, replicate, IfOk, IsOk, IsTrue};
+ghost use Rattle.std.specs.Option.{option_to_list};
+ghost use Rattle.duty_core.specs.declared.activity.Activity.{Activity};
+ghost use Rattle.duty_core.specs.declared.mark.Mark.{Mark};
+ghost use Rattle.duty_core.specs.declared.params.Params.{Params};
+ghost use Rattle.duty_core.specs.Activity.{idles};
+ghost use Rattle.duty_core.specs.Params.{unit_minutes, allows, BeginsUnit};
+ghost use Rattle.duty_core.specs.History.{IsTimed, minute_limit, longest_history};
+ghost use Rattle.duty_core.specs.Lawful.{IsLawfulWith};
+ghost use Rattle.rule_core.specs.declared.nexts.Next.{Next};
+ghost use Rattle.rule_core.specs.declared.nexts.Idles.{Idles};
+ghost use Rattle.rule_core.specs.Reach.{listed, idle_list, IsOneOf, Reaches, IsAnswered};
+
+use crate::nexts::{Idles, Next, Nexts};
+use duty_core::{Activity, Minute, NoMemory, Params};
+
+/// A rule book, as a machine over states of histories.
+///
+/// A state is what the book remembers of a history and its marks up to a minute. Each minute that a
+/// call takes, the units taken counted, is below 100,000,000.
+pub trait RuleBook {
+    /// What the book remembers of a history.
+    type State: Drop;
+
+    /// Whether `root`, `copy`, `step` and `advance` take no memory.
+    const FRUGAL: bool;
+
+    ghost FRUGAL: { Bool };
+
+    /// The book's parameters.
+    ghost params_of: { Self → Params };
+
+    /// The state is one of a history that ends at this minute.
+    ghost is_state_at: { Self → Self.State → ℕ → Type 0 };
+
+    /// The state of the empty history that begins at this minute.
+    ghost root_of: { Self → ℕ → Self.State };
+
+    /// The states after one unit that begins at this minute.
+    ghost nexts_of: { Self → Self.State → ℕ → Activity → List (Next Self.State) };
+
+    /// The states after so many equal units, the first of which begins at this minute.
+    ghost advances_of: { Self → Self.State → ℕ → Activity → ℕ → List (Next Self.State) };
+
+    /// Whether the first state may stand for the second at this minute.
+    ghost covering: { Self → Self.State → Self.State → ℕ → Bool };
+
+    /// The idle activities that a search needs to try.
+    ghost idles_of: { Self → Self.State → Idles };
+
+    /// The book's parameters.
+    fn params(&self) -> Params
+        ensures { result ≡ params_of self.now };
+
+    /// The state of an empty history whose first unit begins at `first`.
+    fn root(&self, first: Minute) -> Result<Self::State, NoMemory>
+        requires begins { BeginsUnit (params_of self.now) first }
+        requires range { first < minute_limit }
+        ensures root { IfOk result (λ s. s ≡ root_of self.now first) }
+        ensures frugal { IsTrue FRUGAL → IsOk result };
+
+    /// An equal state.
+    fn copy(&self, state: &Self::State) -> Result<Self::State, NoMemory>
+        ensures same { IfOk result (λ s. s ≡ state.now) }
+        ensures frugal { IsTrue FRUGAL → IsOk result };
+
+    /// The states after one unit that begins at `at`, each with the mark that was chosen there.
+    fn step(
+        &self,
+        state: &Self::State,
+        at: Minute,
+        act: Activity,
+    ) -> Result<Nexts<Self::State>, NoMemory>
+        requires state { is_state_at self.now state.now at }
+        requires range { at + unit_minutes (params_of self.now) < minute_limit }
+        ensures nexts { IfOk result (λ n. listed n ≡ nexts_of self.now state.now at act) }
+        ensures frugal { IsTrue FRUGAL → IsOk result };
+
+    /// The states after `n` equal units, from 1 to 50,400, the first of which begins at `at`.
+    fn advance(
+        &self,
+        state: &Self::State,
+        at: Minute,
+        act: Activity,
+        n: u32,
+    ) -> Result<Nexts<Self::State>, NoMemory>
+        requires state { is_state_at self.now state.now at }
+        requires some { 1 ≤ n }
+        requires long { n ≤ longest_history }
+        requires range { at + unit_minutes (params_of self.now) * n < minute_limit }
+        ensures nexts { IfOk result (λ ns. listed ns ≡ advances_of self.now state.now at act n) }
+        ensures frugal { IsTrue FRUGAL → IsOk result };
+
+    /// Whether `a` may stand for `b` at the minute `at`: whatever `b` can do from there, `a` can.
+    fn covers(&self, a: &Self::State, b: &Self::State, at: Minute) -> bool
+        requires a { is_state_at self.now a.now at }
+        requires b { is_state_at self.now b.now at }
+        ensures { result ≡ covering self.now a.now b.now at };
+
+    /// The idle activities that a search needs to try from the state.
+    fn idles(&self, state: &Self::State) -> Idles
+        ensures { result ≡ idles_of self.now state.now };
+
+    /// The root is a state.
+    ghost root_is_state: { (book : Self) (first : ℕ) → BeginsUnit (params_of book) first → is_state_at book (root_of book first) first };
+
+    /// A successor is a state.
+    ghost next_is_state: { (book : Self) (s : Self.State) (at : ℕ) (x : Activity) (n : Next Self.State) →
+        is_state_at book s at → IsOneOf (nexts_of book s at x) n → is_state_at book n.state (at + unit_minutes (params_of book)) };
+
+    /// A history is reached from the root by a path that chooses these marks exactly where it is lawful with them.
+    ghost exact: { (book : Self) (first : ℕ) (h : List Activity) (marks : List Mark) → IsTimed (params_of book) first h →
+        ((s : Self.State) × Reaches (unit_minutes (params_of book)) (nexts_of book) (root_of book first) first h marks s) ↔ IsLawfulWith (params_of book) first h marks };
+
+    /// What `advance` gives is reached by single steps.
+    ghost advances_reach: { (book : Self) (s : Self.State) (at : ℕ) (x : Activity) (n : ℕ) (t : Next Self.State) →
+        is_state_at book s at → IsOneOf (advances_of book s at x n) t →
+        Reaches (unit_minutes (params_of book)) (nexts_of book) s at (replicate n x) (option_to_list t.mark) t.state };
+
+    /// What single steps reach, `advance` gives.
+    ghost advances_all: { (book : Self) (s : Self.State) (at : ℕ) (x : Activity) (n : ℕ) (marks : List Mark) (u : Self.State) →
+        is_state_at book s at → Reaches (unit_minutes (params_of book)) (nexts_of book) s at (replicate n x) marks u →
+        (t : Next Self.State) × IsOneOf (advances_of book s at x n) t × (t.state ≡ u) × (marks ≡ option_to_list t.mark) };
+
+    /// A state covers itself.
+    ghost covers_itself: { (book : Self) (s : Self.State) (at : ℕ) → is_state_at book s at → covering book s s at ≡ true };
+
+    /// What covers a state covers all that it covers.
+    ghost covers_on: { (book : Self) (a b c : Self.State) (at : ℕ) →
+        is_state_at book a at → is_state_at book b at → is_state_at book c at →
+        covering book a b at ≡ true → covering book b c at ≡ true → covering book a c at ≡ true };
+
+    /// What covers a state has, for each of its successors by an activity that a schedule may hold, one by the same activity that covers that.
+    ghost simulation: { (book : Self) (a b : Self.State) (at : ℕ) (x : Activity) (n : Next Self.State) →
+        is_state_at book a at → is_state_at book b at → covering book a b at ≡ true → allows (params_of book) x ≡ true →
+        IsOneOf (nexts_of book b at x) n → IsAnswered (nexts_of book a at x) (λ t. covering book t n.state (at + unit_minutes (params_of book))) };
+
+    /// The activities of `idles` are idle ones that a schedule may hold.
+    ghost idles_allowed: { (book : Self) (s : Self.State) (at : ℕ) (y : Activity) → is_state_at book s at →
+        IsOneOf (idle_list (idles_of book s)) y → (idles y ≡ true) × (allows (params_of book) y ≡ true) };
+
+    /// Each successor by an idle activity that a schedule may hold is covered by a successor by one of `idles`.
+    ghost idles_cover: { (book : Self) (s : Self.State) (at : ℕ) (x : Activity) (n : ℕ) (t : Next Self.State) →
+        is_state_at book s at → 1 ≤ n → n ≤ longest_history → idles x ≡ true → allows (params_of book) x ≡ true → IsOneOf (advances_of book s at x n) t →
+        (y : Activity) × IsOneOf (idle_list (idles_of book s)) y
+        × IsAnswered (advances_of book s at y n) (λ u. covering book u t.state (at + unit_minutes (params_of book) * n)) };
+}
