@@ -3,6 +3,7 @@ use Rattle.std.specs.Prelude.{◌≡◌, ℕ, ◌+◌, ◌*◌, ◌<◌, ◌≤�
 use Rattle.duty_core.specs.declared.activity.Activity.{Activity}
 use Rattle.duty_core.specs.declared.activity.Activity.TheVariants.{Off}
 use Rattle.duty_core.specs.declared.params.Params.{Params}
+use Rattle.duty_core.specs.declared.limits.TheConstants.{LONGEST_HISTORY, MINUTE_LIMIT}
 use Rattle.duty_core.specs.Params.{unit_minutes, day_units, BeginsUnit}
 
 -- how many days of rest stand before and behind a history
@@ -27,16 +28,8 @@ unit_at p i = slice_index_or p i Off
 abbrev pub between : List Activity → ℕ → ℕ → List Activity
 between p from to = drop from (take to p)
 
--- the greatest length of a history, in units
-unfoldable pub longest_history : ℕ
-longest_history = 50400
-
--- the minute that no book's call reaches
-unfoldable pub minute_limit : ℕ
-minute_limit = 100000000
-
 -- A book's rules may be asked of a history that begins at this minute.
 pub record IsTimed (params : Params) (first : ℕ) (h : List Activity) : Type 0 where
   pub begins : BeginsUnit params first
-  pub long : length h ≤ longest_history
-  pub ends : first + unit_minutes params * length h < minute_limit
+  pub long : length h ≤ LONGEST_HISTORY
+  pub ends : first + unit_minutes params * length h < MINUTE_LIMIT

@@ -6,7 +6,8 @@ use Rattle.duty_core.specs.declared.mark.Mark.{Mark}
 use Rattle.duty_core.specs.declared.params.Params.{Params}
 use Rattle.duty_core.specs.Activity.{idles}
 use Rattle.duty_core.specs.Params.{unit_minutes, allows}
-use Rattle.duty_core.specs.History.{IsTimed, longest_history}
+use Rattle.duty_core.specs.declared.limits.TheConstants.{LONGEST_HISTORY}
+use Rattle.duty_core.specs.History.{IsTimed}
 use Rattle.duty_core.specs.Lawful.{IsLawfulWith}
 use Rattle.rule_core.specs.declared.nexts.Next.{Next}
 use Rattle.rule_core.specs.declared.nexts.Idles.{Idles}
@@ -28,5 +29,5 @@ pub record IsMachine {S : Type 0} (params : Params) (first : ℕ) (is_state : S 
   pub simulates : (a b : S) (at : ℕ) (x : Activity) (n : Next S) → is_state a at → is_state b at → covers a b at ≡ true → allows params x ≡ true →
       IsOneOf (nexts b at x) n → IsAnswered (nexts a at x) (λ t. covers t n.state (at + unit_minutes params))
   pub tries_allowed : (s : S) (at : ℕ) (y : Activity) → is_state s at → IsOneOf (idle_list (tries s)) y → (idles y ≡ true) × (allows params y ≡ true)
-  pub tries_cover : (s : S) (at : ℕ) (x : Activity) (n : ℕ) (t : Next S) → is_state s at → 1 ≤ n → n ≤ longest_history → idles x ≡ true → allows params x ≡ true → IsOneOf (advances s at x n) t →
+  pub tries_cover : (s : S) (at : ℕ) (x : Activity) (n : ℕ) (t : Next S) → is_state s at → 1 ≤ n → n ≤ LONGEST_HISTORY → idles x ≡ true → allows params x ≡ true → IsOneOf (advances s at x n) t →
       (y : Activity) × IsOneOf (idle_list (tries s)) y × IsAnswered (advances s at y n) (λ u. covers u t.state (at + unit_minutes params * n))

@@ -6,14 +6,15 @@ ghost use Rattle.duty_core.specs.declared.mark.Mark.{Mark};
 ghost use Rattle.duty_core.specs.declared.params.Params.{Params};
 ghost use Rattle.duty_core.specs.Activity.{idles};
 ghost use Rattle.duty_core.specs.Params.{unit_minutes, allows, BeginsUnit};
-ghost use Rattle.duty_core.specs.History.{IsTimed, minute_limit, longest_history};
+ghost use Rattle.duty_core.specs.declared.limits.TheConstants.{LONGEST_HISTORY};
+ghost use Rattle.duty_core.specs.History.{IsTimed};
 ghost use Rattle.duty_core.specs.Lawful.{IsLawfulWith};
 ghost use Rattle.rule_core.specs.declared.nexts.Next.{Next};
 ghost use Rattle.rule_core.specs.declared.nexts.Idles.{Idles};
 ghost use Rattle.rule_core.specs.Reach.{listed, idle_list, IsOneOf, Reaches, IsAnswered};
 
 use crate::nexts::{Idles, Next, Nexts};
-use duty_core::{Activity, Minute, NoMemory, Params};
+use duty_core::{Activity, LONGEST_HISTORY, MINUTE_LIMIT, Minute, NoMemory, Params};
 
 /// A rule book, as a machine over states of histories.
 ///
@@ -56,7 +57,7 @@ pub trait RuleBook {
     /// The state of an empty history whose first unit begins at `first`.
     fn root(&self, first: Minute) -> Result<Self::State, NoMemory>
         requires begins { BeginsUnit (params_of self.now) first }
-        requires range { first < minute_limit }
+        requires range { first < MINUTE_LIMIT }
         ensures root { IfOk result (λ s. s ≡ root_of self.now first) }
         ensures frugal { IsTrue FRUGAL → IsOk result };
 
@@ -73,7 +74,7 @@ pub trait RuleBook {
         act: Activity,
     ) -> Result<Nexts<Self::State>, NoMemory>
         requires state { is_state_at self.now state.now at }
-        requires range { at + unit_minutes (params_of self.now) < minute_limit }
+        requires range { at + unit_minutes (params_of self.now) < MINUTE_LIMIT }
         ensures nexts { IfOk result (λ n. listed n ≡ nexts_of self.now state.now at act) }
         ensures frugal { IsTrue FRUGAL → IsOk result };
 
@@ -87,8 +88,8 @@ pub trait RuleBook {
     ) -> Result<Nexts<Self::State>, NoMemory>
         requires state { is_state_at self.now state.now at }
         requires some { 1 ≤ n }
-        requires long { n ≤ longest_history }
-        requires range { at + unit_minutes (params_of self.now) * n < minute_limit }
+        requires long { n ≤ LONGEST_HISTORY }
+        requires range { at + unit_minutes (params_of self.now) * n < MINUTE_LIMIT }
         ensures nexts { IfOk result (λ ns. listed ns ≡ advances_of self.now state.now at act n) }
         ensures frugal { IsTrue FRUGAL → IsOk result };
 
@@ -142,7 +143,7 @@ pub trait RuleBook {
 
     /// Each successor by an idle activity that a schedule may hold is covered by a successor by one of `idles`.
     ghost idles_cover: { (book : Self) (s : Self.State) (at : ℕ) (x : Activity) (n : ℕ) (t : Next Self.State) →
-        is_state_at book s at → 1 ≤ n → n ≤ longest_history → idles x ≡ true → allows (params_of book) x ≡ true → IsOneOf (advances_of book s at x n) t →
+        is_state_at book s at → 1 ≤ n → n ≤ LONGEST_HISTORY → idles x ≡ true → allows (params_of book) x ≡ true → IsOneOf (advances_of book s at x n) t →
         (y : Activity) × IsOneOf (idle_list (idles_of book s)) y
         × IsAnswered (advances_of book s at y n) (λ u. covering book u t.state (at + unit_minutes (params_of book) * n)) };
 }
