@@ -1,0 +1,3 @@
+pub mod ProblemLaws
+pub mod CoverLaws
+pub mod SoundLaws

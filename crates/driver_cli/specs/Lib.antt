@@ -1,0 +1,5 @@
+pub mod Tour
+pub mod Schedule
+pub mod Problem
+pub mod Layers
+pub mod Planning
