@@ -1,3 +1,4 @@
 pub mod ProblemLaws
+pub mod BetterLaws
 pub mod CoverLaws
 pub mod SoundLaws

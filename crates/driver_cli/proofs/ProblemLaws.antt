@@ -7,11 +7,13 @@ use Rattle.duty_core.specs.Activity.{idles}
 use Rattle.rule_core.specs.declared.nexts.Next.{Next}
 use Rattle.rule_core.specs.Reach.{IsOneOf, IsAnswered}
 use Rattle.driver_cli.specs.Schedule.{progresses}
+use Rattle.driver_cli.specs.declared.label.Label.{Label}
 use Rattle.driver_cli.specs.Problem.{Problem, done, departed}
 
 -- The laws of a problem, by step: those of its book, over whole steps, and those of its tour.
 -- `is_state` tells which states there are at a step, and `allowed` which activities a schedule may hold.
 pub record IsProblem {S : Type 0} (problem : Problem S) (is_state : S → ℕ → Type 0) (allowed : Activity → Bool) : Type 0 where
+  pub goal_some : 0 < problem.goal
   pub root_is : is_state problem.root 0
   pub next_is : (s : S) (k : ℕ) (x : Activity) (n : Next S) → is_state s k → IsOneOf (problem.nexts s k x) n → is_state n.state (k + 1)
   pub itself : (s : S) (k : ℕ) → is_state s k → problem.covers s s k ≡ true
@@ -44,3 +46,8 @@ done_after p (x ∷ xs) = done_after (done p x) xs
 abbrev pub departed_after : Option ℕ → ℕ → List Activity → Option ℕ
 departed_after d k [] = d
 departed_after d k (x ∷ xs) = departed_after (departed d x k) (k + 1) xs
+
+-- A label of this step: its state is one, and it has departed by then where it has done anything.
+pub record IsLabelAt {S : Type 0} (is_state : S → ℕ → Type 0) (step : ℕ) (l : Label S) : Type 0 where
+  pub state : is_state l.state step
+  pub departed : 0 < l.progress → (d : ℕ) × (l.depart ≡ Some d) × (d ≤ step)
