@@ -2,3 +2,8 @@ pub mod ProblemLaws
 pub mod BetterLaws
 pub mod CoverLaws
 pub mod SoundLaws
+pub mod TourLaws
+pub mod ProblemOf
+pub mod UnitLaws
+pub mod ScheduleLaws
+pub mod PlanLaws
