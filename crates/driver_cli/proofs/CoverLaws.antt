@@ -112,8 +112,8 @@ answer_idle problem is_state allowed laws k p d s x n kept idle ok may past ther
     let i = laws.tries_idle kept.label.state k q.0 here.state q.1 in
     let u = q.2 in
     answer_by problem is_state allowed laws k p d s n.state x q.0 kept u.0 (inr (inr q.1)) (laws.may_idle k p x q.0 idle i.0 may) u.1 past b here.state
-      (departed_idle d x k idle ∙ sym (departed_idle d q.0 k i.0)) (done_idle p x idle ∙ sym (done_idle p q.0 i.0))
-      (laws.on u.0.state a.0.state n.state (k + 1) (laws.next_is kept.label.state k q.0 u.0 here.state u.1) (laws.next_is kept.label.state k x a.0 here.state a.1) (laws.next_is s k x n there o) u.2 a.2)
+    (departed_idle d x k idle ∙ sym (departed_idle d q.0 k i.0)) (done_idle p x idle ∙ sym (done_idle p q.0 i.0))
+    (laws.on u.0.state a.0.state n.state (k + 1) (laws.next_is kept.label.state k q.0 u.0 here.state u.1) (laws.next_is kept.label.state k x a.0 here.state a.1) (laws.next_is s k x n there o) u.2 a.2)
 
 answer_work : {S : Type 0} (problem : Problem S) (is_state : S → ℕ → Type 0) (allowed : Activity → Bool) → IsProblem problem is_state allowed →
     (k p : ℕ) (d : Option ℕ) (s : S) (x : Activity) (n : Next S) (kept : Kept S) → IsOneOf (Drive ∷ Serve ∷ problem.tries kept.label.state) x → allowed x ≡ true →
@@ -146,7 +146,7 @@ too_long problem is_state allowed target laws k p d s l ys goes ends better long
     let old = later_some long.depart d (subst (λ o. later o d ≡ true) long.departed b.depart) in
     let f : departed_after d k ys ≡ Some old.0 = ap (λ o. departed_after o k ys) old.1 ∙ departed_stays old.0 k ys in
     at_least_more target (long.eta - long.depart) ((k + length ys) - unwrap_or (departed_after d k ys) 0)
-      (fewer long.eta (k + length ys) (Some long.depart) (departed_after d k ys) long.depart old.0 refl f old.2 (let j = q.2 in omega arith)) long.long
+    (fewer long.eta (k + length ys) (Some long.depart) (departed_after d k ys) long.depart old.0 refl f old.2 (let j = q.2 in omega arith)) long.long
 
 -- a way whose label so far is covered takes no less than the target
 follows : {S : Type 0} (problem : Problem S) (is_state : S → ℕ → Type 0) (allowed : Activity → Bool) (target : Option ℕ) (layers : List (List (Kept S))) →

@@ -18,7 +18,7 @@ use Rattle.driver_cli.specs.Layers.{layer_at, taken, path_of, IsAtLeast, IsCover
 use Rattle.driver_cli.specs.Planning.{minute_of, problem_of}
 use Rattle.driver_cli.proofs.ProblemLaws.{IsAllowedFrom, done_after}
 use Rattle.driver_cli.proofs.CoverLaws.{no_shorter}
-use Rattle.driver_cli.proofs.SoundLaws.{IsWay, sound_way}
+use Rattle.driver_cli.proofs.SoundLaws.{IsWay, sound_way, sound_label}
 use Rattle.driver_cli.proofs.ProblemOf.{problem_laws}
 use Rattle.driver_cli.proofs.UnitLaws.{length-units, units_reached, steps_reached}
 use Rattle.driver_cli.proofs.ScheduleLaws.{way_serves, serves_way, serves_done, serves_short}
@@ -69,12 +69,14 @@ solution_way tour is_state root nexts advances covers tries m t xs s =
 -- no solution takes less than the target of a cover list
 pub solution_at_least : {S : Type 0} (tour : Tour) (is_state : S → ℕ → Type 0) (root : S) (nexts : S → ℕ → Activity → List (Next S)) (advances : S → ℕ → Activity → ℕ → List (Next S)) (covers : S → S → ℕ → Bool) (tries : S → Idles) →
     IsMachine PARAMS START is_state root nexts advances covers tries → IsTour tour →
-    (target : Option ℕ) (layers : List (List (Kept S))) → IsCoverList (problem_of tour root advances covers tries) target layers →
+    (target : Option ℕ) (layers : List (List (Kept S))) → IsSound (problem_of tour root advances covers tries) layers → IsCoverList (problem_of tour root advances covers tries) target layers →
     (xs : List Activity) → IsSolution tour xs → IsAtLeast target (duration xs)
-solution_at_least tour is_state root nexts advances covers tries m t target layers c xs s =
+solution_at_least tour is_state root nexts advances covers tries m t target layers sound c xs s =
+    let problem = problem_of tour root advances covers tries in
+    let laws = problem_laws tour is_state root nexts advances covers tries m t in
     let w = solution_way tour is_state root nexts advances covers tries m t xs s in
-    no_shorter (problem_of tour root advances covers tries) (λ s k. is_state s (minute_of k)) (allows PARAMS) target layers
-    (problem_laws tour is_state root nexts advances covers tries m t) c xs w.marks w.end w.goes w.whole w.path
+    no_shorter problem (λ s k. is_state s (minute_of k)) (allows PARAMS) target layers
+    laws c (sound_label problem (λ s k. is_state s (minute_of k)) (allows PARAMS) layers laws sound) xs w.marks w.end w.goes w.whole w.path
 
 -- what a way takes
 way_duration : {S : Type 0} (tour : Tour) (root : S) (advances : S → ℕ → Activity → ℕ → List (Next S)) (covers : S → S → ℕ → Bool) (tries : S → Idles) →
@@ -94,12 +96,12 @@ found_shortest tour is_state root nexts advances covers tries m t layers step in
     record {
       solves = way_solves tour is_state root nexts advances covers tries m t xs w.marks k.label.state w.goes (sym w.progress ∙ goal) w.path;
       least = λ other s. subst (λ n. n ≤ duration other) (way_duration tour root advances covers tries step xs k w)
-          (solution_at_least tour is_state root nexts advances covers tries m t (Some (taken step k.label)) layers c other s);
+          (solution_at_least tour is_state root nexts advances covers tries m t (Some (taken step k.label)) layers sound c other s);
     }
 
 -- where the layers are a cover list with no target, the tour has no solution
 pub never_solved : {S : Type 0} (tour : Tour) (is_state : S → ℕ → Type 0) (root : S) (nexts : S → ℕ → Activity → List (Next S)) (advances : S → ℕ → Activity → ℕ → List (Next S)) (covers : S → S → ℕ → Bool) (tries : S → Idles) →
     IsMachine PARAMS START is_state root nexts advances covers tries → IsTour tour →
-    (layers : List (List (Kept S))) → IsCoverList (problem_of tour root advances covers tries) None layers → IsInfeasible tour
-never_solved tour is_state root nexts advances covers tries m t layers c xs s =
-    solution_at_least tour is_state root nexts advances covers tries m t None layers c xs s
+    (layers : List (List (Kept S))) → IsSound (problem_of tour root advances covers tries) layers → IsCoverList (problem_of tour root advances covers tries) None layers → IsInfeasible tour
+never_solved tour is_state root nexts advances covers tries m t layers sound c xs s =
+    solution_at_least tour is_state root nexts advances covers tries m t None layers sound c xs s

@@ -19,10 +19,10 @@ pub record IsProblem {S : Type 0} (problem : Problem S) (is_state : S → ℕ �
   pub itself : (s : S) (k : ℕ) → is_state s k → problem.covers s s k ≡ true
   pub on : (a b c : S) (k : ℕ) → is_state a k → is_state b k → is_state c k → problem.covers a b k ≡ true → problem.covers b c k ≡ true → problem.covers a c k ≡ true
   pub simulates : (a b : S) (k : ℕ) (x : Activity) (n : Next S) → is_state a k → is_state b k → problem.covers a b k ≡ true → allowed x ≡ true →
-    IsOneOf (problem.nexts b k x) n → IsAnswered (problem.nexts a k x) (λ t. problem.covers t n.state (k + 1))
+      IsOneOf (problem.nexts b k x) n → IsAnswered (problem.nexts a k x) (λ t. problem.covers t n.state (k + 1))
   pub tries_idle : (s : S) (k : ℕ) (y : Activity) → is_state s k → IsOneOf (problem.tries s) y → (idles y ≡ true) × (allowed y ≡ true)
   pub tries_cover : (s : S) (k : ℕ) (x : Activity) (t : Next S) → is_state s k → idles x ≡ true → allowed x ≡ true → IsOneOf (problem.nexts s k x) t →
-    (y : Activity) × IsOneOf (problem.tries s) y × IsAnswered (problem.nexts s k y) (λ u. problem.covers u t.state (k + 1))
+      (y : Activity) × IsOneOf (problem.tries s) y × IsAnswered (problem.nexts s k y) (λ u. problem.covers u t.state (k + 1))
   pub works_allowed : (x : Activity) → progresses x ≡ true → allowed x ≡ true
   -- nothing is allowed once the word is done
   pub may_before : (k p : ℕ) (x : Activity) → problem.may k p x ≡ true → p < problem.goal

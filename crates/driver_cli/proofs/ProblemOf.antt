@@ -75,6 +75,7 @@ pub problem_laws : {S : Type 0} (tour : Tour) (is_state : S → ℕ → Type 0) 
     IsMachine PARAMS START is_state root nexts advances covers tries → IsTour tour →
     IsProblem (problem_of tour root advances covers tries) (λ s k. is_state s (minute_of k)) (allows PARAMS)
 problem_laws tour is_state root nexts advances covers tries m t = record {
+  goal_some = (let some = t.some_service in omega arith);
   root_is = m.root_is;
   next_is = step_state is_state root nexts advances covers tries m;
   itself = λ s k i. m.itself s (minute_of k) i;
