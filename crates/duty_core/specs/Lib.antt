@@ -4,3 +4,6 @@ pub mod History
 pub mod RestRun
 pub mod UnitedStates
 pub mod Lawful
+pub mod HistoryLaws
+pub mod RunLaws
+pub mod BaseLaws
