@@ -1,3 +1,4 @@
 pub mod ProblemLaws
 pub mod CoverLaws
 pub mod SoundLaws
+pub mod FormParts
