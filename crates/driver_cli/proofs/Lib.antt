@@ -7,3 +7,4 @@ pub mod ProblemOf
 pub mod UnitLaws
 pub mod ScheduleLaws
 pub mod PlanLaws
+pub mod FormParts
