@@ -1,3 +1,6 @@
 pub mod ProblemLaws
 pub mod CoverLaws
 pub mod SoundLaws
+pub mod GrowthLaws
+pub mod OfferLaws
+pub mod NextLaws

@@ -3,3 +3,5 @@ pub mod Schedule
 pub mod Problem
 pub mod Layers
 pub mod Planning
+pub mod Plain
+pub mod Searching
