@@ -4,3 +4,5 @@ pub mod SoundLaws
 pub mod GrowthLaws
 pub mod OfferLaws
 pub mod NextLaws
+pub mod BestLaws
+pub mod PathLaws

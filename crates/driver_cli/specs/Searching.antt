@@ -148,6 +148,11 @@ IsSearched problem budget (Found layers place) = IsFound problem budget layers p
 IsSearched problem budget (Never layers) = IsNever problem budget layers
 IsSearched problem budget (Spent layers) = IsSpent problem budget layers
 
+-- what was found where no label is left to grow
+abbrev pub ended_by : {S : Type 0} → Option Best → List (List (Kept S)) → Searched S
+ended_by None layers = Never layers
+ended_by (Some b) layers = Found layers b.place
+
 -- Each label's parent is a place of the layer before.
 abbrev pub HaveParents : {S : Type 0} → List (List (Kept S)) → Type 0
 HaveParents {S} layers = (step : ℕ) (k : Kept S) → IsOneOf (layer_at layers (step + 1)) k → k.parent < length (layer_at layers step)

@@ -6,11 +6,13 @@ mod growth;
 mod label;
 mod layer;
 mod layer_list;
+mod path;
 mod tour;
 
-pub use by_layers::{Best, Place, Searched};
+pub use by_layers::{Best, Place, Searched, search};
 pub use growth::{minute_at, successors};
 pub use label::{Grown, Kept, Label};
 pub use layer::{Limits, Offered, better};
 pub use layer_list::Layers;
+pub use path::{Steps, rebuild};
 pub use tour::Tour;
