@@ -6,3 +6,4 @@ pub mod OfferLaws
 pub mod NextLaws
 pub mod BestLaws
 pub mod PathLaws
+pub mod SearchLaws
