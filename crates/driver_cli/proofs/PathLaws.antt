@@ -10,7 +10,8 @@ use Rattle.rule_core.specs.OneOf.{one_of_item}
 use Rattle.driver_cli.specs.declared.label.Kept.{Kept}
 use Rattle.driver_cli.specs.Problem.{Problem}
 use Rattle.driver_cli.specs.Layers.{layer_at, path_of, parent_of, acts_of, IsSound}
-use Rattle.driver_cli.specs.Searching.{HaveParents}
+use Rattle.driver_cli.specs.declared.by_layers.Place.{Place}
+use Rattle.driver_cli.specs.Searching.{HaveParents, IsFound}
 
 -- sound layers have parents
 pub sound_parents : {S : Type 0} (problem : Problem S) (layers : List (List (Kept S))) → IsSound problem layers → HaveParents layers
@@ -47,3 +48,10 @@ parent_there layers before step index k h e lt is = h before k (subst (λ n. IsO
 pub path_whole : {S : Type 0} (layers : List (List (Kept S))) (step index : ℕ) (whole acts : List Activity) → step ≤ 0 → whole ≡ path_of layers step index ++ reverse acts → reverse acts ≡ whole
 path_whole layers zero index whole acts le h = sym h
 path_whole layers (suc step) index whole acts le h = absurd (omega arith)
+
+-- what a search found has a place, and parents
+pub found_place : {S : Type 0} (problem : Problem S) (budget : ℕ) (layers : List (List (Kept S))) (place : Place) → IsFound problem budget layers place → place.index < length (layer_at layers place.layer)
+found_place problem budget layers place h = slice_get_within (layer_at layers place.layer) place.index h.best h.there
+
+pub found_parents : {S : Type 0} (problem : Problem S) (budget : ℕ) (layers : List (List (Kept S))) (place : Place) → IsFound problem budget layers place → HaveParents layers
+found_parents problem budget layers place h = sound_parents problem layers h.sound

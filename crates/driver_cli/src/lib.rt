@@ -12,7 +12,7 @@ mod tour;
 pub use by_layers::{Best, Place, Searched, search};
 pub use growth::{minute_at, successors};
 pub use label::{Grown, Kept, Label};
-pub use layer::{Limits, Offered, better};
+pub use layer::{Limits, Offered, better, next_layer, offer};
 pub use layer_list::Layers;
 pub use path::{Steps, rebuild};
 pub use tour::Tour;

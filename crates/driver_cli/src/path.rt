@@ -55,3 +55,40 @@ pub fn rebuild<S: Drop>(
     items.reverse();
     Ok(Steps { items })
 }
+
+#[cfg(test)]
+mod tests {
+    use super::*;
+    use crate::label::{Kept, Label};
+
+    /// A label of no account but its parent and its activity.
+    fn kept(parent: u32, act: Activity) -> Kept<u32>
+        ensures parent { result.parent ≡ parent }
+        ensures act { result.act ≡ act }
+    {
+        let label = Label {
+            depart: None,
+            progress: 0,
+            state: 0,
+        };
+        Kept {
+            label,
+            parent,
+            act,
+            mark: None,
+        }
+    }
+
+    #[test]
+    fn no_way_leads_to_the_first_layer(rt: HostRuntime) {
+        let alloc = rt.alloc();
+        let mut first = Vec::new(alloc);
+        first.push(kept(0, Activity::Off)).expect(&rt, "memory");
+        let mut layers = Layers::new(alloc);
+        layers.push_layer(first).expect(&rt, "memory");
+        let place = Place { layer: 0, index: 0 };
+        let steps = rebuild(alloc, &layers, place).expect(&rt, "memory");
+        assert!(&rt; layers.depth() == 1);
+        assert!(&rt; steps.items().is_empty());
+    }
+}
