@@ -8,3 +8,9 @@ pub mod UnitLaws
 pub mod ScheduleLaws
 pub mod PlanLaws
 pub mod FormParts
+pub mod GrowthLaws
+pub mod OfferLaws
+pub mod NextLaws
+pub mod BestLaws
+pub mod PathLaws
+pub mod SearchLaws

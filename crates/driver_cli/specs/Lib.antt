@@ -5,3 +5,6 @@ pub mod Layers
 pub mod Planning
 pub mod Form
 pub mod FormLaws
+pub mod Plain
+pub mod Searching
+pub mod Planned

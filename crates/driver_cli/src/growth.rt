@@ -1,0 +1,133 @@
+//! How a label grows by one step.
+ghost use Rattle.std.specs.Prelude.{◌≡◌, ℕ, ◌+◌, ◌<◌, ◌≤◌, ◌++◌, List, map, IfOk, OnOk};
+ghost use Rattle.std.specs.Option.{option_to_list};
+ghost use Rattle.rule_core.specs.Reach.{listed};
+ghost use Rattle.driver_cli.specs.Tour.{IsTour, word_length};
+ghost use Rattle.driver_cli.specs.Problem.{grow, grown_by, successors_of};
+ghost use Rattle.driver_cli.specs.Planning.{problem_of, minute_of};
+
+use crate::label::{Grown, Label};
+use crate::tour::{GRID, PARAMS, START, Tour};
+use duty_core::{Activity, Minute, NoMemory};
+use rule_core::{Idles, Next, Nexts, RuleBook};
+use std::alloc::Global;
+
+/// The civil minute at which a step begins.
+pub fn minute_at(step: u32) -> Minute
+    requires { step < 1000000 }
+    ensures { result ≡ minute_of step }
+{
+    START + GRID * step
+}
+
+/// What a step of the activity makes of the label, where it leads to this state.
+fn grown<S>(label: &Label<S>, step: u32, act: Activity, next: Next<S>) -> Grown<S>
+    requires { label.now.progress < 1000000 }
+    ensures { result ≡ grow label.now step act next }
+{
+    let Next { state, mark } = next;
+    let label = match act {
+        Activity::Drive | Activity::Serve => Label {
+            depart: Some(label.depart.unwrap_or(step)),
+            progress: label.progress + 1,
+            state,
+        },
+        Activity::Wait | Activity::Off | Activity::Berth => Label {
+            depart: label.depart,
+            progress: label.progress,
+            state,
+        },
+    };
+    Grown { label, act, mark }
+}
+
+/// Adds what the step makes of the label, where there is a state to which it leads.
+fn push_grown<S: Drop>(
+    list: &mut Vec<Grown<S>>,
+    label: &Label<S>,
+    step: u32,
+    act: Activity,
+    next: Option<Next<S>>,
+) -> Result<(), NoMemory>
+    requires { label.now.progress < 1000000 }
+    ensures ok { OnOk result (list.new.items ≡ list.old.items ++ map (grow label.now step act) (option_to_list next)) }
+{
+    match next {
+        None => Ok(()),
+        Some(next) => {
+            list.push(grown(label, step, act, next))?;
+            Ok(())
+        }
+    }
+}
+
+/// Adds what the step makes of the label, for each state to which it leads.
+fn push_nexts<S: Drop>(
+    list: &mut Vec<Grown<S>>,
+    label: &Label<S>,
+    step: u32,
+    act: Activity,
+    nexts: Nexts<S>,
+) -> Result<(), NoMemory>
+    requires { label.now.progress < 1000000 }
+    ensures ok { OnOk result (list.new.items ≡ list.old.items ++ map (grow label.now step act) (listed nexts)) }
+{
+    let Nexts { a, b, c } = nexts;
+    push_grown(list, label, step, act, a)?;
+    push_grown(list, label, step, act, b)?;
+    push_grown(list, label, step, act, c)?;
+    Ok(())
+}
+
+/// Adds the label's successors by one activity: none where the tour does not allow it.
+fn push_by<B: RuleBook>(
+    list: &mut Vec<Grown<B::State>>,
+    book: &B,
+    tour: &Tour,
+    label: &Label<B::State>,
+    step: u32,
+    act: Activity,
+) -> Result<(), NoMemory>
+    requires tour { IsTour tour.now }
+    requires params { B.params_of book.now ≡ PARAMS }
+    requires state { B.is_state_at book.now label.now.state (minute_of step) }
+    requires progress { label.now.progress ≤ word_length tour.now }
+    requires step { step < 1000000 }
+    ensures ok { OnOk result (list.new.items ≡ list.old.items
+        ++ grown_by (problem_of tour.now (B.root_of book.now START) (B.advances_of book.now) (B.covering book.now) (B.idles_of book.now)) step label.now act) }
+{
+    if !tour.may_do(step, label.progress, act) {
+        return Ok(());
+    }
+    let nexts = book.advance(&label.state, minute_at(step), act, GRID)?;
+    push_nexts(list, label, step, act, nexts)?;
+    Ok(())
+}
+
+/// A label's successors after one step: by driving, by service, and by each idle activity that the
+/// book needs tried, where the tour allows it.
+pub fn successors<B: RuleBook>(
+    alloc: Global,
+    book: &B,
+    tour: &Tour,
+    label: &Label<B::State>,
+    step: u32,
+) -> Result<Vec<Grown<B::State>>, NoMemory>
+    requires tour { IsTour tour.now }
+    requires params { B.params_of book.now ≡ PARAMS }
+    requires state { B.is_state_at book.now label.now.state (minute_of step) }
+    requires progress { label.now.progress ≤ word_length tour.now }
+    requires step { step < 1000000 }
+    ensures ok { IfOk result (λ list. list.items ≡ successors_of (problem_of tour.now (B.root_of book.now START)
+        (B.advances_of book.now) (B.covering book.now) (B.idles_of book.now)) step label.now) }
+{
+    let mut list = Vec::new(alloc);
+    push_by(&mut list, book, tour, label, step, Activity::Drive)?;
+    push_by(&mut list, book, tour, label, step, Activity::Serve)?;
+    let Idles { first, second } = book.idles(&label.state);
+    push_by(&mut list, book, tour, label, step, first)?;
+    if let Some(second) = second {
+        push_by(&mut list, book, tour, label, step, second)?;
+    }
+    Ok(list)
+}
