@@ -1,0 +1,4 @@
+pub mod CenturyDates
+pub mod Opening
+pub mod StopPlaces
+pub mod TimeTexts
