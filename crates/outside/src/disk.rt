@@ -1,5 +1,5 @@
 //! The system's files as a desk, which tells nothing of content.
-ghost use Rattle.std.specs.Prelude.{◌≡◌, ◌≤◌, IfOk, None, length};
+ghost use Rattle.std.specs.Prelude.{◌≡◌, ◌≤◌, IfOk, IfSome, None, length, take};
 ghost use Rattle.outside.specs.Disk.{no_faults};
 
 use crate::desk::{Desk, DeskFault};
@@ -55,7 +55,8 @@ impl<'a, R: Files> DiskDesk<'a, R> {
 
 /// The first `limit` bytes of what a reader gives. `Failed` where a read fails.
 fn read_start<R: Read>(alloc: Global, reader: &mut R, limit: usize) -> Result<Vec<u8>, DeskFault>
-    ensures { IfOk result (λ bytes. length bytes.items ≤ limit) }
+    ensures bytes { IfOk result (λ bytes. IfSome (R.remaining reader.old) (λ all. bytes.items ≡ take limit all)) }
+    ensures bound { IfOk result (λ bytes. length bytes.items ≤ limit) }
 {
     let mut bytes = Vec::new(alloc);
     let mut buffer = [0u8; BLOCK];
@@ -134,5 +135,35 @@ impl<'a, R: Files> Desk for DiskDesk<'a, R> {
         self.write_faults = self.write_faults.saturating_add(1);
         self.write_failed = Some(failed);
         Err(DeskFault::Failed)
+    }
+}
+
+#[cfg(test)]
+mod tests {
+    use super::*;
+    use std::process;
+    use std::test::Fail;
+
+    #[test]
+    fn puts_and_fetches_a_file(rt: HostRuntime) -> Result<(), Fail> {
+        let text = format!(in rt.alloc(); "outside-{}.tmp", process::id(rt.process()))?;
+        let name = Word::new(rt.alloc(), text.as_str())?;
+        let mut desk = DiskDesk::new(&rt, rt.alloc());
+        assert!(rt; matches!(desk.fetch(rt.alloc(), &name, 9), Err(DeskFault::Failed)));
+        assert_eq!(rt; desk.read_faults, 1);
+        desk.put(&name, b"longer than that")?;
+        desk.put(&name, b"the tour")?;
+        assert_eq!(rt;
+            desk.fetch(rt.alloc(), &name, 99)?.as_slice(),
+            b"the tour".as_slice()
+        );
+        assert_eq!(rt;
+            desk.fetch(rt.alloc(), &name, 3)?.as_slice(),
+            b"the".as_slice()
+        );
+        fs::remove_file(&rt, name.as_str())?;
+        assert_eq!(rt; desk.read_faults, 1);
+        assert_eq!(rt; desk.write_faults, 0);
+        Ok(())
     }
 }

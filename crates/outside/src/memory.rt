@@ -319,3 +319,57 @@ impl Sink for MemorySink {
         }
     }
 }
+
+#[cfg(test)]
+mod tests {
+    use super::*;
+    use std::test::Fail;
+
+    #[test]
+    fn fails_the_listed_fetch(rt: HostRuntime) -> Result<(), Fail> {
+        let name = Word::new(rt.alloc(), "tour")?;
+        let mut desk = MemoryDesk::new(rt.alloc());
+        desk.hold(&name, b"first")?;
+        desk.fail_fetch(2)?;
+        assert_eq!(rt;
+            desk.fetch(rt.alloc(), &name, 3)?.as_slice(),
+            b"fir".as_slice()
+        );
+        assert!(rt; matches!(desk.fetch(rt.alloc(), &name, 3), Err(DeskFault::Failed)));
+        assert_eq!(rt;
+            desk.fetch(rt.alloc(), &name, 9)?.as_slice(),
+            b"first".as_slice()
+        );
+        let missing = Word::new(rt.alloc(), "Tour")?;
+        assert!(rt; matches!(desk.fetch(rt.alloc(), &missing, 9), Err(DeskFault::Failed)));
+        assert_eq!(rt; desk.read_faults, 2);
+        Ok(())
+    }
+
+    #[test]
+    fn fails_the_listed_put(rt: HostRuntime) -> Result<(), Fail> {
+        let name = Word::new(rt.alloc(), "save")?;
+        let mut desk = MemoryDesk::new(rt.alloc());
+        desk.fail_put(2)?;
+        desk.put(&name, b"one")?;
+        assert_eq!(rt; desk.put(&name, b"two"), Err(DeskFault::Failed));
+        assert!(rt; matches!(desk.file(&name), Some(b"one")));
+        desk.put(&name, b"three")?;
+        assert!(rt; matches!(desk.file(&name), Some(b"three")));
+        assert_eq!(rt; desk.write_faults, 1);
+        Ok(())
+    }
+
+    #[test]
+    fn fails_a_send_after_the_earlier_prefix(rt: HostRuntime) -> Result<(), Fail> {
+        let mut sink = MemorySink::new(rt.alloc());
+        sink.fail_send(2, 3)?;
+        sink.fail_send(2, 1)?;
+        sink.send(b"ab")?;
+        assert_eq!(rt; sink.send(b"cdefg"), Err(SinkFault::Failed));
+        sink.send(b"hi")?;
+        assert_eq!(rt; sink.bytes(), b"abcdehi".as_slice());
+        assert_eq!(rt; sink.faults, 1);
+        Ok(())
+    }
+}

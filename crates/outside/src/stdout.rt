@@ -1,5 +1,8 @@
 //! Standard output as a sink, which tells nothing of content.
 ghost use Rattle.std.specs.Prelude.{◌≡◌, None};
+ghost use Rattle.std.specs.Bool.{OnTrue, OnFalse};
+ghost use Rattle.std.specs.Io.KnownBytes.{Appends};
+ghost use Rattle.outside.specs.Outside.{AppendsStart};
 
 use crate::sink::{Sink, SinkFault};
 use std::io::{self, Write};
@@ -32,8 +35,11 @@ impl<'a, R: Print> StdSink<'a, R> {
     }
 }
 
-/// Writes all the bytes; false where the writer fails or takes nothing.
-pub(crate) fn write_whole<W: Write>(writer: &mut W, bytes: &[u8]) -> bool {
+/// Writes all the bytes; false where the writer fails or takes nothing, after some first part.
+pub(crate) fn write_whole<W: Write>(writer: &mut W, bytes: &[u8]) -> bool
+    ensures whole { OnTrue result (Appends (W.contents writer.old) (W.contents writer.new) bytes.now) }
+    ensures start { OnFalse result (AppendsStart (W.contents writer.old) (W.contents writer.new) bytes.now) }
+{
     let mut at = 0usize;
     while at < bytes.len() {
         match writer.write(&bytes[at..]) {
@@ -57,5 +63,19 @@ impl<'a, R: Print> Sink for StdSink<'a, R> {
         }
         self.faults = self.faults.saturating_add(1);
         Err(SinkFault::Failed)
+    }
+}
+
+#[cfg(test)]
+mod tests {
+    use super::*;
+    use std::test::Fail;
+
+    #[test]
+    fn sends_a_line(rt: HostRuntime) -> Result<(), Fail> {
+        let mut sink = StdSink::new(&rt);
+        assert_eq!(rt; sink.send(b"sent\n"), Ok(()));
+        assert_eq!(rt; sink.faults, 0);
+        Ok(())
     }
 }

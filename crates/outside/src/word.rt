@@ -50,3 +50,18 @@ impl Word {
         Word::new(alloc, self.as_str())
     }
 }
+
+#[cfg(test)]
+mod tests {
+    use super::*;
+    use std::test::Fail;
+
+    #[test]
+    fn copies_a_text(rt: HostRuntime) -> Result<(), Fail> {
+        let word = Word::new(rt.alloc(), "Zürich")?;
+        let copy = word.copy(rt.alloc())?;
+        assert_eq!(rt; copy.as_str(), "Zürich");
+        assert_eq!(rt; copy.as_bytes(), b"Z\xc3\xbcrich".as_slice());
+        Ok(())
+    }
+}
