@@ -1,3 +1,9 @@
 pub mod ProblemLaws
 pub mod CoverLaws
 pub mod SoundLaws
+pub mod RunLines
+pub mod Departure
+pub mod Words
+pub mod Clock
+pub mod Composed
+pub mod Exactly

@@ -3,3 +3,11 @@ pub mod Schedule
 pub mod Problem
 pub mod Layers
 pub mod Planning
+pub mod Form
+pub mod Planned
+pub mod Texts
+pub mod Status
+pub mod Sent
+pub mod Judged
+pub mod Answers
+pub mod Exact
