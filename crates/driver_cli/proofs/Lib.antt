@@ -1,6 +1,7 @@
 pub mod ProblemLaws
 pub mod CoverLaws
 pub mod SoundLaws
+pub mod FormParts
 pub mod RunLines
 pub mod Departure
 pub mod Words

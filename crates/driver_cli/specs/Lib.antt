@@ -4,6 +4,7 @@ pub mod Problem
 pub mod Layers
 pub mod Planning
 pub mod Form
+pub mod FormLaws
 pub mod Planned
 pub mod Texts
 pub mod Status

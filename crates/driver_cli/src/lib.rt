@@ -10,6 +10,7 @@ mod top;
 mod tour;
 
 pub use answer::Status;
+pub use form::{FORM_LIMIT, FormFault, read_tour};
 pub use label::{Grown, Kept, Label};
 pub use top::drive_tool;
 pub use tour::Tour;
