@@ -14,3 +14,9 @@ pub mod NextLaws
 pub mod BestLaws
 pub mod PathLaws
 pub mod SearchLaws
+pub mod RunLines
+pub mod Departure
+pub mod Words
+pub mod Clock
+pub mod Composed
+pub mod Exactly

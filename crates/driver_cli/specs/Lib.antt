@@ -8,3 +8,9 @@ pub mod FormLaws
 pub mod Plain
 pub mod Searching
 pub mod Planned
+pub mod Texts
+pub mod Status
+pub mod Sent
+pub mod Judged
+pub mod Answers
+pub mod Exact

@@ -1,6 +1,7 @@
 //! The planner over any desk and any sink: its words, its tour, its search and its answers.
 #![tactic(auto)]
 
+mod answer;
 mod by_layers;
 mod form;
 mod growth;
@@ -9,7 +10,9 @@ mod layer;
 mod layer_list;
 mod path;
 mod plan;
+mod texts;
+mod top;
 mod tour;
 
-pub use plan::{Planned, plan_tour};
-pub use tour::Tour;
+pub use answer::Status;
+pub use top::drive_tool;
