@@ -36,7 +36,7 @@ path_more layers before step index k whole acts e lt is h =
     let s : step ≡ suc before = e ∙ add-one before in
     let there : slice_get (layer_at layers step) index ≡ Some k = slice_get_read (layer_at layers step) (length (layer_at layers step)) index k refl lt is in
     let back : path_of layers step index ≡ path_of layers before k.parent ++ k.act ∷ [] =
-      ap (λ n. path_of layers n index) s ∙ path_back layers before index k (subst (λ n. slice_get (layer_at layers n) index ≡ Some k) s there) in
+    ap (λ n. path_of layers n index) s ∙ path_back layers before index k (subst (λ n. slice_get (layer_at layers n) index ≡ Some k) s there) in
     h ∙ (ap (λ ys. ys ++ reverse acts) back ∙ (append_assoc (path_of layers before k.parent) (k.act ∷ []) (reverse acts) ∙ ap (λ ys. path_of layers before k.parent ++ ys) (sym (reverse-append acts (k.act ∷ [])))))
 
 -- where the parent stands

@@ -34,11 +34,7 @@ impl Steps {
 }
 
 /// The activities along the parents, to the label at this place.
-pub fn rebuild<S: Drop>(
-    alloc: Global,
-    layers: &Layers<S>,
-    place: Place,
-) -> Result<Steps, NoMemory>
+pub fn rebuild<S: Drop>(alloc: Global, layers: &Layers<S>, place: Place) -> Result<Steps, NoMemory>
     requires there { place.index < length (layer_at layers.now place.layer) }
     requires parents { HaveParents layers.now }
     ensures path { IfOk result (λ steps. steps ≡ path_of layers.now place.layer place.index) }

@@ -41,7 +41,7 @@ returns-in-Found g c =
     record {
       planned = subst (IsShortest tour) (sym c.in_ok-rebuild-in-Found.ensures.path)
           (found_shortest tour (g.B.RuleBook.is_state_at book) (g.B.RuleBook.root_of book START) (g.B.RuleBook.nexts_of book) (g.B.RuleBook.advances_of book) (g.B.RuleBook.covering book) (g.B.RuleBook.idles_of book)
-            (machine g book c.requires.params) c.requires.tour c.in-Found.layers c.in-Found.place.layer c.in-Found.place.index found.best found.sound found.there found.finished found.covers);
+          (machine g book c.requires.params) c.requires.tour c.in-Found.layers c.in-Found.place.layer c.in-Found.place.index found.best found.sound found.there found.finished found.covers);
     }
 
 pub returns-in-Never : goal.returns-in-Never
