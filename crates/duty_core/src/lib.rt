@@ -10,6 +10,6 @@ mod params;
 
 pub use activity::{Activity, is_duty, is_rest};
 pub use limits::{LONGEST_HISTORY, MINUTE_LIMIT, US_DRIVING_LIMIT, US_FULL_REST};
-pub use mark::{Day, Mark, Minute};
+pub use mark::{Day, Mark, Marks, Minute};
 pub use memory::NoMemory;
 pub use params::{Params, RestWay, allowed, unit_of};
