@@ -1,0 +1,12 @@
+pub mod Window
+pub mod Stop
+pub mod Tour
+pub mod Word
+pub mod Way
+pub mod Eta
+pub mod Schedule
+pub mod WindowLaws
+pub mod WayLaws
+pub mod ServeLaws
+pub mod EtaLaws
+pub mod LengthLaws
