@@ -1,5 +1,5 @@
 //! The marks of a history.
-ghost use Rattle.std.specs.Prelude.{◌≡◌, [], ◌∷◌, ◌++◌, OnOk, OnErr};
+ghost use Rattle.std.specs.Prelude.{◌≡◌, [], ◌∷◌, ◌++◌, OnOk, OnErr, IfOk};
 
 use crate::memory::NoMemory;
 use std::alloc::Global;
@@ -60,6 +60,15 @@ impl Marks {
     {
         self.marks.as_slice()
     }
+
+    /// Equal marks. `NoMemory` if there is none for them.
+    pub fn copy(&self) -> Result<Marks, NoMemory>
+        ensures { IfOk result (λ copy. copy ≡ self.now) }
+    {
+        Ok(Marks {
+            marks: self.marks.clone()?,
+        })
+    }
 }
 
 #[cfg(test)]
@@ -74,6 +83,16 @@ mod tests {
         assert!(rt; marks.push(Mark::DeferDay { day: 1 }).is_ok());
         let expected = [Mark::SplitRest { at: 600 }, Mark::DeferDay { day: 1 }];
         assert_eq!(rt; marks.items(), expected.as_slice());
+        Ok(())
+    }
+
+    #[test]
+    fn a_copy_has_the_same_marks(rt: HostRuntime) -> Result<(), Fail> {
+        let mut marks = Marks::new(rt.alloc());
+        assert!(rt; marks.push(Mark::DeferDay { day: -1 }).is_ok());
+        let copy = marks.copy()?;
+        let expected = [Mark::DeferDay { day: -1 }];
+        assert_eq!(rt; copy.items(), expected.as_slice());
         Ok(())
     }
 }

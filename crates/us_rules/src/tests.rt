@@ -1,12 +1,14 @@
-//! The book's calls, at days of driving and rest.
+//! The book's calls, at days of driving and rest, and logs of such days.
 ghost use Rattle.std.specs.Prelude.{◌+◌, ◌*◌, ◌<◌, ◌≤◌, IfOk, IfSome};
 ghost use Rattle.duty_core.specs.Params.{unit_minutes};
 
 use crate::book::UsBook;
 use crate::state::UsState;
 use duty_core::{Activity, LONGEST_HISTORY, MINUTE_LIMIT, Minute, NoMemory, Params};
-use rule_core::{Idles, Nexts, RuleBook};
+use rule_core::{Idles, Nexts, Replayed, Roots, RuleBook, replay};
+use std::alloc::Global;
 use std::test::Fail;
+use timeline::Timeline;
 
 /// The state after so many equal units, or `None` where they are refused.
 fn moved<B: RuleBook>(
@@ -98,5 +100,83 @@ fn answers_each_call(rt: HostRuntime) -> Result<(), Fail> {
         second: Some(Activity::Wait),
     };
     assert_eq!(rt; book.idles(&root), idles);
+    Ok(())
+}
+
+/// What the book says of the log of these runs, which begins at minute 0.
+fn replayed(
+    alloc: Global,
+    book: &UsBook,
+    parts: &[(Activity, u32)],
+) -> Result<Replayed<UsState>, Fail> {
+    let mut log = Timeline::new(alloc);
+    for (act, n) in parts {
+        log.push_run(*act, *n)?;
+    }
+    let _length = log.len();
+    Ok(replay(alloc, book, &log, 0)?)
+}
+
+/// The states to which a lawful log leads.
+fn roots_of(answer: Replayed<UsState>) -> Option<Roots<UsState>> {
+    match answer {
+        Replayed::Lawful(roots) => Some(roots),
+        Replayed::Unlawful { .. } => None,
+    }
+}
+
+#[test]
+fn finds_the_first_minute_over_the_limit(rt: HostRuntime) -> Result<(), Fail> {
+    let book = UsBook::new(false, 8, 0);
+    let too_long = [(Activity::Drive, 720)];
+    let answer = replayed(rt.alloc(), &book, &too_long)?;
+    assert!(rt; matches!(&answer, Replayed::Unlawful { unit: 660 }));
+    let short_rest = [
+        (Activity::Drive, 660),
+        (Activity::Off, 599),
+        (Activity::Drive, 1),
+    ];
+    let answer = replayed(rt.alloc(), &book, &short_rest)?;
+    assert!(rt; matches!(&answer, Replayed::Unlawful { unit: 1259 }));
+    Ok(())
+}
+
+#[test]
+fn keeps_the_states_of_a_lawful_log(rt: HostRuntime) -> Result<(), Fail> {
+    let book = UsBook::new(false, 8, 0);
+    let two_shifts = [
+        (Activity::Drive, 660),
+        (Activity::Off, 600),
+        (Activity::Drive, 660),
+    ];
+    let answer = replayed(rt.alloc(), &book, &two_shifts)?;
+    let roots = roots_of(answer).ok_or("unlawful")?;
+    assert_eq!(rt; roots.len(), 1);
+    let root = roots.items().first().ok_or("no root")?;
+    assert_eq!(rt;
+        root.state,
+        UsState {
+            rest: 0,
+            driven: 660
+        }
+    );
+    assert_eq!(rt; root.marks.items().len(), 0);
+    Ok(())
+}
+
+#[test]
+fn begins_an_empty_log_rested(rt: HostRuntime) -> Result<(), Fail> {
+    let book = UsBook::new(false, 8, 0);
+    let answer = replayed(rt.alloc(), &book, &[])?;
+    let roots = roots_of(answer).ok_or("unlawful")?;
+    assert_eq!(rt; roots.len(), 1);
+    let root = roots.items().first().ok_or("no root")?;
+    assert_eq!(rt;
+        root.state,
+        UsState {
+            rest: 600,
+            driven: 0
+        }
+    );
     Ok(())
 }

@@ -1,0 +1,131 @@
+//! Going over a log of what a driver has done.
+ghost use Rattle.std.specs.Prelude.{◌≡◌, ◌+◌, ◌<◌, ◌++◌, [], ◌∷◌, map, IfOk, OnOk};
+ghost use Rattle.std.specs.Option.{option_to_list};
+ghost use Rattle.duty_core.specs.Params.{unit_minutes};
+ghost use Rattle.duty_core.specs.declared.limits.TheConstants.{MINUTE_LIMIT};
+ghost use Rattle.duty_core.specs.History.{IsTimed};
+ghost use Rattle.duty_core.specs.Lawful.{IsLawful};
+ghost use Rattle.rule_core.specs.Reach.{listed};
+ghost use Rattle.rule_core.specs.Replay.{root_by, roots_by, AreRootStates, AreRootsOf, IsFirstUnlawful, IfLawful, IfUnlawful};
+
+use crate::book::RuleBook;
+use crate::nexts::{Next, Nexts};
+use crate::roots::{Root, Roots};
+use duty_core::{Activity, Marks, Minute, NoMemory, unit_of};
+use std::alloc::Global;
+use timeline::Timeline;
+
+/// What going over a log shows.
+#[derive(Drop)]
+pub enum Replayed<S> {
+    /// The log breaks no rule with some marks. These are the states that it leads to, at least one.
+    Lawful(Roots<S>),
+    /// With any marks the log breaks a rule up to this unit, counted from 0, and before it none.
+    Unlawful { unit: u32 },
+}
+
+/// The number of roots at which going over a log gives up.
+const ROOT_LIMIT: usize = 0xffff_ffff;
+
+/// Adds the successor, if there is one, with the marks so far and its own.
+fn push_next<S: Drop>(
+    roots: &mut Roots<S>,
+    marks: Marks,
+    next: Option<Next<S>>,
+) -> Result<(), NoMemory>
+    ensures ok { OnOk result (roots.new ≡ roots.old ++ map (root_by marks) (option_to_list next)) }
+{
+    let Some(Next { state, mark }) = next else {
+        return Ok(());
+    };
+    let mut marks = marks;
+    if let Some(mark) = mark {
+        marks.push(mark)?;
+    }
+    roots.push(Root { state, marks })
+}
+
+/// Adds each successor with the marks so far and its own.
+fn push_nexts<S: Drop>(roots: &mut Roots<S>, marks: Marks, nexts: Nexts<S>) -> Result<(), NoMemory>
+    ensures ok { OnOk result (roots.new ≡ roots.old ++ map (root_by marks) (listed nexts)) }
+{
+    let Nexts { a, b, c } = nexts;
+    if b.is_none() && c.is_none() {
+        return push_next(roots, marks, a);
+    }
+    push_next(roots, marks.copy()?, a)?;
+    push_next(roots, marks.copy()?, b)?;
+    push_next(roots, marks, c)
+}
+
+/// What one more unit, which begins at `at`, makes of the roots.
+fn roots_after<B: RuleBook>(
+    alloc: Global,
+    book: &B,
+    roots: Roots<B::State>,
+    at: Minute,
+    act: Activity,
+) -> Result<Roots<B::State>, NoMemory>
+    requires states { AreRootStates (B.is_state_at book.now) at roots }
+    requires range { at + unit_minutes (B.params_of book.now) < MINUTE_LIMIT }
+    ensures { IfOk result (λ after. after ≡ roots_by (B.nexts_of book.now) at act roots) }
+{
+    let Roots { roots } = roots;
+    let mut after = Roots::new(alloc);
+    for root in roots {
+        let Root { state, marks } = root;
+        let nexts = book.step(&state, at, act)?;
+        push_nexts(&mut after, marks, nexts)?;
+    }
+    Ok(after)
+}
+
+/// The root of the empty log that begins at `first`.
+fn first_roots<B: RuleBook>(
+    alloc: Global,
+    book: &B,
+    first: Minute,
+) -> Result<Roots<B::State>, NoMemory>
+    requires { IsTimed (B.params_of book.now) first [] }
+    ensures { IfOk result (λ roots. roots ≡ record { state = B.root_of book.now first; marks = [] } ∷ []) }
+{
+    let mut roots = Roots::new(alloc);
+    let state = book.root(first)?;
+    roots.push(Root {
+        state,
+        marks: Marks::new(alloc),
+    })?;
+    Ok(roots)
+}
+
+/// Goes over a log whose first unit begins at `first`: the states that it leads to, or the first
+/// unit up to which it breaks a rule with any marks.
+///
+/// `NoMemory` where there is none for the roots, and where a beginning of the log leads to
+/// 4,294,967,295 of them or more.
+pub fn replay<B: RuleBook>(
+    alloc: Global,
+    book: &B,
+    log: &Timeline,
+    first: Minute,
+) -> Result<Replayed<B::State>, NoMemory>
+    requires timed { IsTimed (B.params_of book.now) first log.now }
+    ensures lawful { IfOk result (λ answer. IfLawful answer (λ _. IsLawful (B.params_of book.now) first log.now)) }
+    ensures roots { IfOk result (λ answer. IfLawful answer (AreRootsOf (unit_minutes (B.params_of book.now)) (B.nexts_of book.now)
+        (B.covering book.now) (B.root_of book.now first) first log.now)) }
+    ensures unlawful { IfOk result (λ answer. IfUnlawful answer (IsFirstUnlawful (B.params_of book.now) first log.now)) }
+{
+    let minutes = unit_of(book.params());
+    // No root is left out for one that covers it: that one answers for what a schedule may hold only.
+    let mut roots = first_roots(alloc, book, first)?;
+    for unit in 0..log.len() {
+        roots = roots_after(alloc, book, roots, first + minutes * unit, log.at(unit))?;
+        if roots.is_empty() {
+            return Ok(Replayed::Unlawful { unit });
+        }
+        if roots.len() >= ROOT_LIMIT {
+            return Err(NoMemory);
+        }
+    }
+    Ok(Replayed::Lawful(roots))
+}
