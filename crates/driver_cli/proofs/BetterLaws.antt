@@ -11,8 +11,8 @@ use Rattle.rule_core.specs.Reach.{IsOneOf}
 use Rattle.rule_core.specs.OneOf.{one_of_map, one_of_flat_map, one_of-map, one_of-flat_map}
 use Rattle.driver_cli.specs.declared.label.Label.{Label}
 use Rattle.driver_cli.specs.declared.label.Grown.{Grown}
-use Rattle.driver_cli.specs.Schedule.{progresses}
-use Rattle.driver_cli.specs.Problem.{Problem, departed, done, grow, grown_by, successors_of, later, is_better}
+use Rattle.tour_model.specs.Way.{progresses, done}
+use Rattle.driver_cli.specs.Problem.{Problem, departed, grow, grown_by, successors_of, later, is_better}
 use Rattle.driver_cli.proofs.ProblemLaws.{IsProblem}
 
 -- the parts of better

@@ -11,10 +11,11 @@ use Rattle.rule_core.specs.Reach.{IsOneOf, Reaches}
 use Rattle.driver_cli.specs.declared.label.Label.{Label}
 use Rattle.driver_cli.specs.declared.label.Grown.{Grown}
 use Rattle.driver_cli.specs.declared.label.Kept.{Kept}
-use Rattle.driver_cli.specs.Schedule.{progresses, depart_from, duration}
-use Rattle.driver_cli.specs.Problem.{Problem, root_label, departed, done, grow, successors_of, later, is_better}
+use Rattle.tour_model.specs.Way.{progresses, done, done_after}
+use Rattle.tour_model.specs.Schedule.{depart_from, duration}
+use Rattle.driver_cli.specs.Problem.{Problem, root_label, departed, grow, successors_of, later, is_better}
 use Rattle.driver_cli.specs.Layers.{layer_at, IsCovered, IsAtLeast, taken, IsTooLong, IsLetOff, IsCoverList}
-use Rattle.driver_cli.proofs.ProblemLaws.{IsProblem, IsAllowedFrom, done_after, departed_after, IsLabelAt}
+use Rattle.driver_cli.proofs.ProblemLaws.{IsProblem, IsAllowedFrom, departed_after, IsLabelAt}
 use Rattle.driver_cli.proofs.BetterLaws.{AreBetter, better_means, better_from, later_on, IsPast, later_departed, past_more, departed_idle, done_idle, grown_may, successor_by, better_on}
 
 pub at_least_more : (target : Option ℕ) (n m : ℕ) → n ≤ m → IsAtLeast target n → IsAtLeast target m
@@ -62,10 +63,10 @@ fewer : (n m : ℕ) (a d : Option ℕ) (x c : ℕ) → a ≡ Some x → d ≡ So
 fewer n m a d x c e f l h = rw (e, f) (omega arith)
 
 -- a finished label that is better takes no more
-finished_takes : {S : Type 0} (problem : Problem S) (is_state : S → ℕ → Type 0) (allowed : Activity → Bool) (target : Option ℕ) (layers : List (List (Kept S))) →
-    IsProblem problem is_state allowed → IsCoverList problem target layers → ((k : ℕ) (kept : Kept S) → IsOneOf (layer_at layers k) kept → IsLabelAt is_state k kept.label) →
+finished_takes : {S : Type 0} (problem : Problem S) (is_state : S → ℕ → Type 0) (allowed : Activity → Bool) (starts : S → Type 0) (target : Option ℕ) (layers : List (List (Kept S))) →
+    IsProblem problem is_state allowed → IsCoverList problem starts target layers → ((k : ℕ) (kept : Kept S) → IsOneOf (layer_at layers k) kept → IsLabelAt is_state k kept.label) →
     (k p : ℕ) (d : Option ℕ) (s : S) → p ≡ problem.goal → IsCovered problem k (layer_at layers k) (label d p s) → IsAtLeast target (k - unwrap_or d 0)
-finished_takes problem is_state allowed target layers laws covers labels k p d s ends c =
+finished_takes problem is_state allowed starts target layers laws covers labels k p d s ends c =
     let b = better_means problem k c.0.label (label d p s) c.2 in
     let here = labels k c.0 c.1 in
     let goal = laws.goal_some in
@@ -149,14 +150,14 @@ too_long problem is_state allowed target laws k p d s l ys goes ends better long
     (fewer long.eta (k + length ys) (Some long.depart) (departed_after d k ys) long.depart old.0 refl f old.2 (let j = q.2 in omega arith)) long.long
 
 -- a way whose label so far is covered takes no less than the target
-follows : {S : Type 0} (problem : Problem S) (is_state : S → ℕ → Type 0) (allowed : Activity → Bool) (target : Option ℕ) (layers : List (List (Kept S))) →
-    IsProblem problem is_state allowed → IsCoverList problem target layers → ((k : ℕ) (kept : Kept S) → IsOneOf (layer_at layers k) kept → IsLabelAt is_state k kept.label) →
+follows : {S : Type 0} (problem : Problem S) (is_state : S → ℕ → Type 0) (allowed : Activity → Bool) (starts : S → Type 0) (target : Option ℕ) (layers : List (List (Kept S))) →
+    IsProblem problem is_state allowed → IsCoverList problem starts target layers → ((k : ℕ) (kept : Kept S) → IsOneOf (layer_at layers k) kept → IsLabelAt is_state k kept.label) →
     (ys : List Activity) (k p : ℕ) (d : Option ℕ) (s : S) (marks : List Mark) (t : S) → is_state s k → IsPast d k →
     IsAllowedFrom problem allowed k p ys → done_after p ys ≡ problem.goal → Reaches 1 problem.nexts s k ys marks t → IsCovered problem k (layer_at layers k) (label d p s) →
     IsAtLeast target ((k + length ys) - unwrap_or (departed_after d k ys) 0)
-follows problem is_state allowed target layers laws covers labels [] k p d s marks t there past goes ends path c =
-    subst (λ n. IsAtLeast target (n - unwrap_or d 0)) (let e : k ≡ k + 0 = omega arith in e) (finished_takes problem is_state allowed target layers laws covers labels k p d s ends c)
-follows {S} problem is_state allowed target layers laws covers labels (y ∷ ys) k p d s marks t there past goes ends path c =
+follows problem is_state allowed starts target layers laws covers labels [] k p d s marks t there past goes ends path c =
+    subst (λ n. IsAtLeast target (n - unwrap_or d 0)) (let e : k ≡ k + 0 = omega arith in e) (finished_takes problem is_state allowed starts target layers laws covers labels k p d s ends c)
+follows {S} problem is_state allowed starts target layers laws covers labels (y ∷ ys) k p d s marks t there past goes ends path c =
     let n = path.0 in
     let a = answer problem is_state allowed laws k p d s y n c.0 goes.1 goes.0 past there path.1 (labels k c.0 c.1) c.2 in
     let after : Label S = label (departed d y k) (done p y) n.state in
@@ -171,19 +172,20 @@ follows {S} problem is_state allowed target layers laws covers labels (y ∷ ys)
             let z : None ≡ Some q.0 = sym none ∙ (ap (problem.eta (k + 1)) b.progress ∙ q.1) in cc)
         | inr long ↦ too_long problem is_state allowed target laws (k + 1) (done p y) (departed d y k) n.state a.grown.label ys goes.2 ends a.better long
       ])
-      | inr kept ↦ follows problem is_state allowed target layers laws covers labels ys (k + 1) (done p y) (departed d y k) n.state path.2 t there2 (past_more d y k past) goes.2 ends path.4
+      | inr kept ↦ follows problem is_state allowed starts target layers laws covers labels ys (k + 1) (done p y) (departed d y k) n.state path.2 t there2 (past_more d y k past) goes.2 ends path.4
           (kept.0, kept.1, better_on problem is_state allowed laws (k + 1) kept.0.label a.grown.label after (labels (k + 1) kept.0 kept.1).state a.state there2 kept.2 a.better)
     ])
 
--- A whole way through the problem takes no less than the target of a cover list.
-pub no_shorter : {S : Type 0} (problem : Problem S) (is_state : S → ℕ → Type 0) (allowed : Activity → Bool) (target : Option ℕ) (layers : List (List (Kept S))) →
-    IsProblem problem is_state allowed → IsCoverList problem target layers → ((k : ℕ) (kept : Kept S) → IsOneOf (layer_at layers k) kept → IsLabelAt is_state k kept.label) →
+-- A whole way through the problem from a state that it may start in takes no less than the target of a cover list.
+pub no_shorter : {S : Type 0} (problem : Problem S) (is_state : S → ℕ → Type 0) (allowed : Activity → Bool) (starts : S → Type 0) (target : Option ℕ) (layers : List (List (Kept S))) →
+    IsProblem problem is_state allowed → IsCoverList problem starts target layers → ((k : ℕ) (kept : Kept S) → IsOneOf (layer_at layers k) kept → IsLabelAt is_state k kept.label) →
+    (s : S) → starts s → is_state s 0 →
     (xs : List Activity) (marks : List Mark) (t : S) → IsAllowedFrom problem allowed 0 0 xs → done_after 0 xs ≡ problem.goal →
-    Reaches 1 problem.nexts problem.root 0 xs marks t → IsAtLeast target (duration xs)
-no_shorter problem is_state allowed target layers laws covers labels xs marks t goes ends path =
+    Reaches 1 problem.nexts s 0 xs marks t → IsAtLeast target (duration xs)
+no_shorter problem is_state allowed starts target layers laws covers labels s start there xs marks t goes ends path =
     let q = eta_of_rest problem is_state allowed laws xs 0 0 goes ends in
-    let c = covers.starts (record { eta = q.0; is = q.1 }) in
+    let c = covers.started s start (record { eta = q.0; is = q.1 }) in
     let z : 0 + length xs ≡ length xs = omega arith in
     subst (λ o. IsAtLeast target (length xs - unwrap_or o 0)) (departed_from 0 xs)
     (subst (λ m. IsAtLeast target (m - unwrap_or (departed_after None 0 xs) 0)) z
-    (follows problem is_state allowed target layers laws covers labels xs 0 0 None problem.root marks t laws.root_is tt goes ends path c))
+    (follows problem is_state allowed starts target layers laws covers labels xs 0 0 None s marks t there tt goes ends path c))

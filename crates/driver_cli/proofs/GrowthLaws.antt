@@ -13,11 +13,16 @@ use Rattle.rule_core.specs.OneOf.{one_of-flat_map, one_of-map}
 use Rattle.driver_cli.specs.declared.label.Label.{Label}
 use Rattle.driver_cli.specs.declared.label.Grown.{Grown}
 use Rattle.rule_core.specs.declared.nexts.Idles.{Idles}
-use Rattle.driver_cli.specs.declared.tour.Tour.{Tour}
-use Rattle.driver_cli.specs.declared.tour.TheConstants.{GRID, START}
-use Rattle.driver_cli.specs.Tour.{IsTour, word_length, may_do, may_serve}
-use Rattle.driver_cli.specs.Problem.{Problem, done, grow, grown_by, successors_of}
-use Rattle.driver_cli.specs.Planning.{minute_of, problem_of}
+use Rattle.duty_core.specs.Params.{unit_minutes}
+use Rattle.tour_model.specs.declared.tour.Tour.{Tour}
+use Rattle.tour_model.specs.Tour.{IsTour}
+use Rattle.tour_model.specs.Word.{word_length, may_do}
+use Rattle.tour_model.specs.Way.{done}
+use Rattle.tour_model.specs.WayLaws.{may_before}
+use Rattle.tour_model.specs.Schedule.{step_units}
+use Rattle.driver_cli.proofs.ProblemOf.{minute_more}
+use Rattle.driver_cli.specs.Problem.{Problem, grow, grown_by, successors_of}
+use Rattle.driver_cli.specs.Planning.{minute_of, state_at, problem_of}
 use Rattle.driver_cli.specs.Searching.{IsLabelAt, AreGrownAt}
 
 -- by driving, by service and by each activity to try, one list behind the other
@@ -51,33 +56,24 @@ grew_by problem step l g o =
     let q = one_of-flat_map (grown_by problem step l) (Drive ∷ Serve ∷ problem.tries l.state) g o in
     grew_where problem step l q.0 g (problem.may step l.progress q.0) refl q.2
 
--- what units of one activity lead to is a state of the minute at which they end
-pub advanced_state : {S : Type 0} (unit : ℕ) (is_state : S → ℕ → Type 0) (nexts : S → ℕ → Activity → List (Next S)) (advances : S → ℕ → Activity → ℕ → List (Next S)) → unit ≡ 1 →
-    ((s : S) (at : ℕ) (x : Activity) (n : Next S) → is_state s at → IsOneOf (nexts s at x) n → is_state n.state (at + unit)) →
-    ((s : S) (at : ℕ) (x : Activity) (n : ℕ) (t : Next S) → is_state s at → IsOneOf (advances s at x n) t → Reaches unit nexts s at (replicate n x) (option_to_list t.mark) t.state) →
-    (s : S) (at : ℕ) (x : Activity) (n : ℕ) (t : Next S) → is_state s at → IsOneOf (advances s at x n) t → is_state t.state (at + n)
-advanced_state unit is_state nexts advances one next reach s at x n t i o =
-    subst (is_state t.state) (let e : unit * length (replicate n x) ≡ n = ap (λ u. u * length (replicate n x)) one ∙ omega (arith, length-replicate n x) in omega arith)
-    (reached_state unit is_state nexts next (replicate n x) s at (option_to_list t.mark) t.state i (reach s at x n t i o))
-
-serve_within : (tour : Tour) (step p : ℕ) → 1 ≤ tour.service → p ≤ word_length tour → may_serve tour step p ≡ true → p + 1 ≤ word_length tour
-serve_within tour step p s h m = grind (arith, nat_tests)
-
-done_within : (tour : Tour) (step p : ℕ) (x : Activity) → IsTour tour → p ≤ word_length tour → may_do tour step p x ≡ true → done p x ≤ word_length tour
-done_within tour step p Drive t h m = grind (arith, nat_tests)
-done_within tour step p Serve t h m = let s = t.some_service in serve_within tour step p s h m
-done_within tour step p Wait t h m = h
-done_within tour step p Off t h m = h
-done_within tour step p Berth t h m = h
+done_within : (tour : Tour) (step p : ℕ) (x : Activity) → p ≤ word_length tour → may_do tour step p x ≡ true → done p x ≤ word_length tour
+done_within tour step p Drive h m = let l = may_before tour step p Drive m in omega arith
+done_within tour step p Serve h m = let l = may_before tour step p Serve m in omega arith
+done_within tour step p Wait h m = h
+done_within tour step p Off h m = h
+done_within tour step p Berth h m = h
 
 -- a successor of a label is a label of the next step
-pub grown_label : {S : Type 0} (tour : Tour) (root : S) (advances : S → ℕ → Activity → ℕ → List (Next S)) (covers : S → S → ℕ → Bool) (tries : S → Idles) (is_state : S → ℕ → Type 0) → IsTour tour →
-    ((s : S) (at : ℕ) (x : Activity) (n : ℕ) (t : Next S) → is_state s at → IsOneOf (advances s at x n) t → is_state t.state (at + n)) →
-    (step : ℕ) (l : Label S) → IsLabelAt is_state (word_length tour) step l → AreGrownAt is_state (word_length tour) (step + 1) (successors_of (problem_of tour root advances covers tries) step l)
-grown_label tour root advances covers tries is_state t advanced step l h g o =
-    let b = grew_by (problem_of tour root advances covers tries) step l g o in
-    let e : minute_of step + GRID ≡ minute_of (step + 1) = omega arith in
-    subst (λ m. IsLabelAt is_state (word_length tour) (step + 1) m.label) b.is (record {
-      state = subst (is_state b.next.state) e (advanced l.state (minute_of step) b.act GRID b.next h.state b.follows);
-      progress = done_within tour step l.progress b.act t h.progress b.allowed;
+pub grown_label : {S : Type 0} (tour : Tour) (unit : ℕ) (advances : S → ℕ → Activity → ℕ → List (Next S)) (nexts : S → ℕ → Activity → List (Next S)) (covers : S → S → ℕ → Bool) (tries : S → Idles) (is_state : S → ℕ → Type 0) → IsTour tour →
+    unit_minutes tour.params ≡ unit →
+    ((s : S) (at : ℕ) (x : Activity) (n : Next S) → is_state s at → IsOneOf (nexts s at x) n → is_state n.state (at + unit)) →
+    ((s : S) (at : ℕ) (x : Activity) (n : ℕ) (t : Next S) → is_state s at → IsOneOf (advances s at x n) t → Reaches unit nexts s at (replicate n x) (option_to_list t.mark) t.state) →
+    (step : ℕ) (l : Label S) → IsLabelAt (state_at tour is_state) (word_length tour) step l → AreGrownAt (state_at tour is_state) (word_length tour) (step + 1) (successors_of (problem_of tour advances covers tries) step l)
+grown_label tour unit advances nexts covers tries is_state t one next reach step l h g o =
+    let b = grew_by (problem_of tour advances covers tries) step l g o in
+    let each = step_units tour in
+    let e : minute_of tour step + unit * length (replicate each b.act) ≡ minute_of tour (step + 1) = ap (λ u. minute_of tour step + u * length (replicate each b.act)) (sym one) ∙ minute_more tour t step b.act in
+    subst (λ m. IsLabelAt (state_at tour is_state) (word_length tour) (step + 1) m.label) b.is (record {
+      state = subst (is_state b.next.state) e (reached_state unit is_state nexts next (replicate each b.act) l.state (minute_of tour step) (option_to_list b.next.mark) b.next.state h.state (reach l.state (minute_of tour step) b.act each b.next h.state b.follows));
+      progress = done_within tour step l.progress b.act h.progress b.allowed;
     })

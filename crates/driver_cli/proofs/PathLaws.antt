@@ -5,6 +5,7 @@ use Rattle.std.proofs.lemmas.List.{get_or_past, reverse-append}
 use Rattle.std.proofs.lemmas.Option.{slice_get_within, slice_get_read}
 use Rattle.std.proofs.lemmas.Bool.{cases_lt}
 use Rattle.duty_core.specs.declared.activity.Activity.{Activity}
+use Rattle.rule_core.specs.declared.roots.Root.{Root}
 use Rattle.rule_core.specs.Reach.{IsOneOf}
 use Rattle.rule_core.specs.OneOf.{one_of_item}
 use Rattle.driver_cli.specs.declared.label.Kept.{Kept}
@@ -14,8 +15,8 @@ use Rattle.driver_cli.specs.declared.by_layers.Place.{Place}
 use Rattle.driver_cli.specs.Searching.{HaveParents, IsFound}
 
 -- sound layers have parents
-pub sound_parents : {S : Type 0} (problem : Problem S) (layers : List (List (Kept S))) → IsSound problem layers → HaveParents layers
-sound_parents problem layers sound step k o = let g = sound.later step k o in slice_get_within (layer_at layers step) k.parent g.parent g.there
+pub sound_parents : {S : Type 0} (problem : Problem S) (roots : List (Root S)) (layers : List (List (Kept S))) → IsSound problem roots layers → HaveParents layers
+sound_parents problem roots layers sound step k o = let g = sound.later step k o in slice_get_within (layer_at layers step) k.parent g.parent g.there
 
 -- a layer with a label is one of the layers
 pub within_layers : {X : Type 0} (layers : List (List X)) (step i : ℕ) → i < length (layer_at layers step) → step < length layers
@@ -50,8 +51,8 @@ path_whole layers zero index whole acts le h = sym h
 path_whole layers (suc step) index whole acts le h = absurd (omega arith)
 
 -- what a search found has a place, and parents
-pub found_place : {S : Type 0} (problem : Problem S) (budget : ℕ) (layers : List (List (Kept S))) (place : Place) → IsFound problem budget layers place → place.index < length (layer_at layers place.layer)
-found_place problem budget layers place h = slice_get_within (layer_at layers place.layer) place.index h.best h.there
+pub found_place : {S : Type 0} (problem : Problem S) (roots : List (Root S)) (budget : ℕ) (layers : List (List (Kept S))) (place : Place) → IsFound problem roots budget layers place → place.index < length (layer_at layers place.layer)
+found_place problem roots budget layers place h = slice_get_within (layer_at layers place.layer) place.index h.best h.there
 
-pub found_parents : {S : Type 0} (problem : Problem S) (budget : ℕ) (layers : List (List (Kept S))) (place : Place) → IsFound problem budget layers place → HaveParents layers
-found_parents problem budget layers place h = sound_parents problem layers h.sound
+pub found_parents : {S : Type 0} (problem : Problem S) (roots : List (Root S)) (budget : ℕ) (layers : List (List (Kept S))) (place : Place) → IsFound problem roots budget layers place → HaveParents layers
+found_parents problem roots budget layers place h = sound_parents problem roots layers h.sound

@@ -6,15 +6,14 @@ use Rattle.duty_core.specs.declared.mark.Mark.{Mark}
 use Rattle.duty_core.specs.Activity.{idles}
 use Rattle.rule_core.specs.declared.nexts.Next.{Next}
 use Rattle.rule_core.specs.Reach.{IsOneOf, IsAnswered}
-use Rattle.driver_cli.specs.Schedule.{progresses}
+use Rattle.tour_model.specs.Way.{progresses, done}
 use Rattle.driver_cli.specs.declared.label.Label.{Label}
-use Rattle.driver_cli.specs.Problem.{Problem, done, departed}
+use Rattle.driver_cli.specs.Problem.{Problem, departed}
 
 -- The laws of a problem, by step: those of its book, over whole steps, and those of its tour.
 -- `is_state` tells which states there are at a step, and `allowed` which activities a schedule may hold.
 pub record IsProblem {S : Type 0} (problem : Problem S) (is_state : S → ℕ → Type 0) (allowed : Activity → Bool) : Type 0 where
   pub goal_some : 0 < problem.goal
-  pub root_is : is_state problem.root 0
   pub next_is : (s : S) (k : ℕ) (x : Activity) (n : Next S) → is_state s k → IsOneOf (problem.nexts s k x) n → is_state n.state (k + 1)
   pub itself : (s : S) (k : ℕ) → is_state s k → problem.covers s s k ≡ true
   pub on : (a b c : S) (k : ℕ) → is_state a k → is_state b k → is_state c k → problem.covers a b k ≡ true → problem.covers b c k ≡ true → problem.covers a c k ≡ true
@@ -36,11 +35,6 @@ pub record IsProblem {S : Type 0} (problem : Problem S) (is_state : S → ℕ �
 abbrev pub IsAllowedFrom : {S : Type 0} → Problem S → (Activity → Bool) → ℕ → ℕ → List Activity → Type 0
 IsAllowedFrom problem allowed k p [] = Unit {0}
 IsAllowedFrom problem allowed k p (x ∷ xs) = (problem.may k p x ≡ true) × (allowed x ≡ true) × IsAllowedFrom problem allowed (k + 1) (done p x) xs
-
--- the progress after activities
-abbrev pub done_after : ℕ → List Activity → ℕ
-done_after p [] = p
-done_after p (x ∷ xs) = done_after (done p x) xs
 
 -- the departure after activities, the first of which is at step k
 abbrev pub departed_after : Option ℕ → ℕ → List Activity → Option ℕ

@@ -5,6 +5,7 @@ use Rattle.std.proofs.lemmas.Bool.Decides.{nat_tests}
 use Rattle.std.proofs.lemmas.List.{get_or_past, get_or_push, get_or_append_left, nil_from_length}
 use Rattle.std.proofs.lemmas.List.Sums.{sum_by-append, sum_by-cons}
 use Rattle.std.proofs.lemmas.Bool.{cases_lt}
+use Rattle.rule_core.specs.declared.roots.Root.{Root}
 use Rattle.rule_core.specs.Reach.{IsOneOf}
 use Rattle.driver_cli.specs.declared.label.Label.{Label}
 use Rattle.driver_cli.specs.declared.label.Grown.{Grown}
@@ -13,8 +14,8 @@ use Rattle.driver_cli.specs.declared.by_layers.Place.{Place}
 use Rattle.driver_cli.specs.declared.by_layers.Best.{Best}
 use Rattle.driver_cli.specs.Problem.{Problem, root_label, successors_of, is_better, HasEta}
 use Rattle.driver_cli.specs.Layers.{layer_at, IsCovered, IsAtLeast, taken, IsTooLong, IsLetOff, IsAnsweredLayer, IsCoverList, GrewFrom, NoneIsBetter, IsSound, label_count}
-use Rattle.driver_cli.specs.Planning.{minute_of}
-use Rattle.driver_cli.specs.Searching.{IsLabelAt, AreLabelsAt, IsNextLayer, root_kept, first_layer_of, target_of, IsFinishedAt, IsBestOf, IsFound, IsNever, IsSpent, IsSearched, ended_by}
+use Rattle.driver_cli.specs.Planning.{IsRootState}
+use Rattle.driver_cli.specs.Searching.{IsLabelAt, AreLabelsAt, IsFirstLayer, IsNextLayer, target_of, IsFinishedAt, IsBestOf, IsFound, IsNever, IsSpent, IsSearched, ended_by}
 
 -- ---- a layer added behind the others
 
@@ -94,21 +95,21 @@ pub record IsInLayers {S : Type 0} (goal : ℕ) (layers : List (List (Kept S))) 
   pub takes : b.takes ≡ taken b.place.layer kept.label
 
 -- what a search knows of the layers up to this step
-pub record IsSearching {S : Type 0} (problem : Problem S) (is_state : S → ℕ → Type 0) (budget step count : ℕ) (best : Option Best) (layers : List (List (Kept S))) : Type 0 where
+pub record IsSearching {S : Type 0} (problem : Problem S) (roots : List (Root S)) (is_state : S → ℕ → Type 0) (budget step count : ℕ) (best : Option Best) (layers : List (List (Kept S))) : Type 0 where
   pub depth : length layers ≡ step + 1
   pub counted : label_count layers ≡ count
   pub steps : step ≤ count
   pub within : count ≤ budget
-  pub sound : IsSound problem layers
+  pub sound : IsSound problem roots layers
   pub labels : AreLabelsAt is_state problem.goal step (layer_at layers step)
-  pub starts : HasEta problem 0 (root_label problem) → IsCovered problem 0 (layer_at layers 0) (root_label problem)
+  pub started : count < budget → (s : S) → IsRootState roots s → HasEta problem 0 (root_label s) → IsCovered problem 0 (layer_at layers 0) (root_label s)
   pub finished : (s : ℕ) (k : Kept S) → IsOneOf (layer_at layers s) k → k.label.progress ≡ problem.goal → IsAtLeast (target_of best) (taken s k.label)
   pub answered : count < budget → (s : ℕ) → s < step → IsAnsweredLayer problem (target_of best) s (layer_at layers s) (layer_at layers (s + 1))
   pub found : (b : Best) → best ≡ Some b → IsInLayers problem.goal layers b
 
-sound_more : {S : Type 0} (problem : Problem S) (layers : List (List (Kept S))) (next : List (Kept S)) (step : ℕ) → length layers ≡ step + 1 → IsSound problem layers →
-    ((k : Kept S) → IsOneOf next k → GrewFrom problem step (layer_at layers step) k) → NoneIsBetter problem (step + 1) next → IsSound problem (layers ++ next ∷ [])
-sound_more {S} problem layers next step e h grew better = record {
+sound_more : {S : Type 0} (problem : Problem S) (roots : List (Root S)) (layers : List (List (Kept S))) (next : List (Kept S)) (step : ℕ) → length layers ≡ step + 1 → IsSound problem roots layers →
+    ((k : Kept S) → IsOneOf next k → GrewFrom problem step (layer_at layers step) k) → NoneIsBetter problem (step + 1) next → IsSound problem roots (layers ++ next ∷ [])
+sound_more {S} problem roots layers next step e h grew better = record {
   first = λ k o. h.first k (subst (λ ys. IsOneOf ys k) (at_old layers next 0 (omega arith)) o);
   later = each_pair layers next (λ s ys zs. (k : Kept S) → IsOneOf zs k → GrewFrom problem s ys k) step e (λ s lt. h.later s) grew (λ s ys k o. absurd o);
   better = each_layer layers next (NoneIsBetter problem) (λ s lt. h.better s) (subst (λ n. NoneIsBetter problem n next) (sym e) better) (λ s. tt);
@@ -140,20 +141,20 @@ answered_more {S} problem step best new layers next e less old last s lt =
     ])
 
 -- one more layer
-pub searching_more : {S : Type 0} (problem : Problem S) (is_state : S → ℕ → Type 0) (budget step count room : ℕ) (best new : Option Best) (layers : List (List (Kept S))) (next : List (Kept S)) →
-    IsSearching problem is_state budget step count best layers → count < budget → room ≡ budget - count → IsNextLayer problem (target_of best) step room (layer_at layers step) next →
+pub searching_more : {S : Type 0} (problem : Problem S) (roots : List (Root S)) (is_state : S → ℕ → Type 0) (budget step count room : ℕ) (best new : Option Best) (layers : List (List (Kept S))) (next : List (Kept S)) →
+    IsSearching problem roots is_state budget step count best layers → count < budget → room ≡ budget - count → IsNextLayer problem (target_of best) step room (layer_at layers step) next →
     AreLabelsAt is_state problem.goal (step + 1) next → 0 < length next → IsBestOf problem.goal (step + 1) next best new →
-    IsSearching problem is_state budget (step + 1) (count + length next) new (layers ++ next ∷ [])
-searching_more {S} problem is_state budget step count room best new layers next h lt r n labels some b =
+    IsSearching problem roots is_state budget (step + 1) (count + length next) new (layers ++ next ∷ [])
+searching_more {S} problem roots is_state budget step count room best new layers next h lt r n labels some b =
     let depth = h.depth in let steps = h.steps in let bounded = n.bounded in let counted = h.counted in
     record {
       depth = omega (arith, length-append layers (next ∷ []));
       counted = omega (arith, count_more layers next);
       steps = omega arith;
       within = omega arith;
-      sound = sound_more problem layers next step h.depth h.sound n.grew n.better;
+      sound = sound_more problem roots layers next step h.depth h.sound n.grew n.better;
       labels = subst (AreLabelsAt is_state problem.goal (step + 1)) (sym (at_new layers next (step + 1) h.depth)) labels;
-      starts = λ e. subst (λ ys. IsCovered problem 0 ys (root_label problem)) (sym (at_old layers next 0 (omega arith))) (h.starts e);
+      started = λ small s r e. subst (λ ys. IsCovered problem 0 ys (root_label s)) (sym (at_old layers next 0 (omega arith))) (h.started lt s r e);
       finished = each_layer layers next (λ s ys. (k : Kept S) → IsOneOf ys k → k.label.progress ≡ problem.goal → IsAtLeast (target_of new) (taken s k.label))
           (λ s l k o e. b.keeps (taken s k.label) (h.finished s k o e))
           (subst (λ m. (k : Kept S) → IsOneOf next k → k.label.progress ≡ problem.goal → IsAtLeast (target_of new) (taken m k.label)) (sym h.depth) b.each)
@@ -164,26 +165,6 @@ searching_more {S} problem is_state budget step count room best new layers next 
 
 -- ---- the beginning and the end
 
-first_small : {S : Type 0} (problem : Problem S) (o : Option ℕ) → length (first_layer_of problem o) ≤ 1
-first_small problem None = omega arith
-first_small problem (Some e) = omega arith
-
-first_root : {S : Type 0} (problem : Problem S) (o : Option ℕ) → problem.eta 0 0 ≡ o → (k : Kept S) → IsOneOf (first_layer_of problem o) k → (k.label ≡ root_label problem) × HasEta problem 0 k.label
-first_root problem None e k o = absurd o
-first_root problem (Some eta) e k o = elim o [
-  | inl f ↦ (sym (ap (λ m. m.label) f), subst (λ l. HasEta problem 0 l) (ap (λ m. m.label) f) (record { eta = eta; is = e }))
-  | inr z ↦ absurd z
-]
-
-first_starts : {S : Type 0} (problem : Problem S) (o : Option ℕ) → problem.eta 0 0 ≡ o → is_better problem 0 (root_label problem) (root_label problem) ≡ true → HasEta problem 0 (root_label problem) →
-    IsCovered problem 0 (first_layer_of problem o) (root_label problem)
-first_starts problem None e b h = absurd (let f : None ≡ Some h.eta = sym e ∙ h.is in cc)
-first_starts problem (Some eta) e b h = (root_kept problem, inl refl, b)
-
-first_better : {S : Type 0} (problem : Problem S) (o : Option ℕ) → NoneIsBetter problem 0 (first_layer_of problem o)
-first_better problem None = tt
-first_better problem (Some eta) = (λ m q. absurd q, tt)
-
 -- the first layer alone
 only_layer : {X : Type 0} (first : List X) (P : ℕ → List X → Type 0) → P 0 first → ((s : ℕ) → P s []) → (s : ℕ) → P s (layer_at ([] ++ first ∷ []) s)
 only_layer first P here past zero = here
@@ -192,42 +173,51 @@ only_layer first P here past (suc s) = past (suc s)
 only_next : {X : Type 0} (first : List X) (s : ℕ) → layer_at ([] ++ first ∷ []) (s + 1) ≡ []
 only_next first s = get_or_past ([] ++ first ∷ []) (s + 1) [] (omega arith)
 
-pub searching_first : {S : Type 0} (problem : Problem S) (is_state : S → ℕ → Type 0) (budget : ℕ) (first : List (Kept S)) → 1 ≤ budget → 1 ≤ problem.goal → is_state problem.root (minute_of 0) →
-    is_better problem 0 (root_label problem) (root_label problem) ≡ true → first ≡ first_layer_of problem (problem.eta 0 0) → IsSearching problem is_state budget 0 (length first) None ([] ++ first ∷ [])
-searching_first {S} problem is_state budget first some goal root better is =
-    let small : length first ≤ 1 = subst (λ ys. length ys ≤ 1) (sym is) (first_small problem (problem.eta 0 0)) in
-    let roots = λ (k : Kept S) (o : IsOneOf first k). first_root problem (problem.eta 0 0) refl k (subst (λ ys. IsOneOf ys k) is o) in
-    record {
-      depth = omega arith;
-      counted = omega arith;
-      steps = omega arith;
-      within = omega arith;
-      sound = record {
-        first = roots;
-        later = λ s k o. absurd (subst (λ ys. IsOneOf ys k) (only_next first s) o);
-        better = only_layer first (NoneIsBetter problem) (subst (NoneIsBetter problem 0) (sym is) (first_better problem (problem.eta 0 0))) (λ s. tt);
-      };
-      labels = λ k o. subst (IsLabelAt is_state problem.goal 0) (sym (roots k o).0) (record { state = root; progress = omega arith });
-      starts = λ h. subst (λ ys. IsCovered problem 0 ys (root_label problem)) (sym is) (first_starts problem (problem.eta 0 0) refl better h);
-      finished = only_layer first (λ s ys. (k : Kept S) → IsOneOf ys k → k.label.progress ≡ problem.goal → IsAtLeast None (taken s k.label))
-          (λ k o e. absurd (let z : k.label.progress ≡ 0 = ap (λ l. l.progress) (roots k o).0 in omega arith)) (λ s k o. absurd o);
-      answered = λ h s l. absurd (omega arith);
-      found = λ b e. absurd (cc);
-    }
+-- a root's label that is let off with no target cannot be finished
+started_by : {S : Type 0} (problem : Problem S) (roots : List (Root S)) (first : List (Kept S)) → ((r : Root S) → IsOneOf roots r → IsLetOff problem None 0 (root_label r.state) ⊎ IsCovered problem 0 first (root_label r.state)) →
+    (s : S) → IsRootState roots s → HasEta problem 0 (root_label s) → IsCovered problem 0 first (root_label s)
+started_by problem roots first h s r eta =
+    subst (λ u. IsCovered problem 0 first (root_label u)) r.2 (elim (h r.0 r.1) [
+      | inl off ↦ (elim off [
+        | inl none ↦ absurd (let e : None ≡ Some eta.eta = sym none ∙ eta.is in cc)
+        | inr long ↦ absurd long.long
+      ])
+      | inr c ↦ c
+    ])
 
-pub searching_spent : {S : Type 0} (problem : Problem S) (is_state : S → ℕ → Type 0) (budget step count : ℕ) (best : Option Best) (layers : List (List (Kept S))) →
-    IsSearching problem is_state budget step count best layers → budget ≤ count → IsSpent problem budget layers
-searching_spent problem is_state budget step count best layers h le = let within = h.within in let counted = h.counted in record { sound = h.sound; count = omega arith }
+pub searching_first : {S : Type 0} (problem : Problem S) (roots : List (Root S)) (is_state : S → ℕ → Type 0) (budget : ℕ) (first : List (Kept S)) → 1 ≤ problem.goal →
+    IsFirstLayer problem budget roots first → AreLabelsAt is_state problem.goal 0 first → IsSearching problem roots is_state budget 0 (length first) None ([] ++ first ∷ [])
+searching_first {S} problem roots is_state budget first goal f labels = record {
+  depth = omega arith;
+  counted = omega arith;
+  steps = omega arith;
+  within = f.bounded;
+  sound = record {
+    first = f.first;
+    later = λ s k o. absurd (subst (λ ys. IsOneOf ys k) (only_next first s) o);
+    better = only_layer first (NoneIsBetter problem) f.better (λ s. tt);
+  };
+  labels = labels;
+  started = λ small. started_by problem roots first (f.started small);
+  finished = only_layer first (λ s ys. (k : Kept S) → IsOneOf ys k → k.label.progress ≡ problem.goal → IsAtLeast None (taken s k.label))
+      (λ k o e. absurd (let z : k.label.progress ≡ 0 = ap (λ l. l.progress) (f.first k o).label in omega arith)) (λ s k o. absurd o);
+  answered = λ h s l. absurd (omega arith);
+  found = λ b e. absurd (cc);
+}
 
-cover_list : {S : Type 0} (problem : Problem S) (is_state : S → ℕ → Type 0) (budget step count room : ℕ) (best : Option Best) (layers : List (List (Kept S))) (next : List (Kept S)) →
-    IsSearching problem is_state budget step count best layers → count < budget → room ≡ budget - count → IsNextLayer problem (target_of best) step room (layer_at layers step) next → next ≡ [] →
-    IsCoverList problem (target_of best) layers
-cover_list {S} problem is_state budget step count room best layers next h lt r n none =
+pub searching_spent : {S : Type 0} (problem : Problem S) (roots : List (Root S)) (is_state : S → ℕ → Type 0) (budget step count : ℕ) (best : Option Best) (layers : List (List (Kept S))) →
+    IsSearching problem roots is_state budget step count best layers → budget ≤ count → IsSpent problem roots budget layers
+searching_spent problem roots is_state budget step count best layers h le = let within = h.within in let counted = h.counted in record { sound = h.sound; count = omega arith }
+
+cover_list : {S : Type 0} (problem : Problem S) (roots : List (Root S)) (is_state : S → ℕ → Type 0) (budget step count room : ℕ) (best : Option Best) (layers : List (List (Kept S))) (next : List (Kept S)) →
+    IsSearching problem roots is_state budget step count best layers → count < budget → room ≡ budget - count → IsNextLayer problem (target_of best) step room (layer_at layers step) next → next ≡ [] →
+    IsCoverList problem (IsRootState roots) (target_of best) layers
+cover_list {S} problem roots is_state budget step count room best layers next h lt r n none =
     let depth = h.depth in
     let small : length next < room = subst (λ ys. length ys < room) (sym none) (omega arith) in
     let last = subst (λ ys. IsAnsweredLayer problem (target_of best) step (layer_at layers step) ys) none (n.answered small) in
     record {
-      starts = h.starts;
+      started = h.started lt;
       finished = h.finished;
       answered = λ s. elim (cases_lt s step) [
         | inl a ↦ h.answered lt s a
@@ -240,16 +230,16 @@ cover_list {S} problem is_state budget step count room best layers next h lt r n
       ];
     }
 
-ended_as : {S : Type 0} (problem : Problem S) (budget : ℕ) (best : Option Best) (layers : List (List (Kept S))) → IsSound problem layers → label_count layers < budget → IsCoverList problem (target_of best) layers →
-    ((b : Best) → best ≡ Some b → IsInLayers problem.goal layers b) → IsSearched problem budget (ended_by best layers)
-ended_as problem budget None layers sound count covers found = record { sound = sound; covers = covers; count = count }
-ended_as problem budget (Some b) layers sound count covers found =
+ended_as : {S : Type 0} (problem : Problem S) (roots : List (Root S)) (budget : ℕ) (best : Option Best) (layers : List (List (Kept S))) → IsSound problem roots layers → label_count layers < budget → IsCoverList problem (IsRootState roots) (target_of best) layers →
+    ((b : Best) → best ≡ Some b → IsInLayers problem.goal layers b) → IsSearched problem roots budget (ended_by best layers)
+ended_as problem roots budget None layers sound count covers found = record { sound = sound; covers = covers; count = count }
+ended_as problem roots budget (Some b) layers sound count covers found =
     let f = found b refl in
-    record { sound = sound; best = f.kept; there = f.there; finished = f.finished; covers = subst (λ n. IsCoverList problem (Some n) layers) f.takes covers; count = count }
+    record { sound = sound; best = f.kept; there = f.there; finished = f.finished; covers = subst (λ n. IsCoverList problem (IsRootState roots) (Some n) layers) f.takes covers; count = count }
 
-pub searching_ended : {S : Type 0} (problem : Problem S) (is_state : S → ℕ → Type 0) (budget step count room : ℕ) (best : Option Best) (layers : List (List (Kept S))) (next : List (Kept S)) →
-    IsSearching problem is_state budget step count best layers → count < budget → room ≡ budget - count → IsNextLayer problem (target_of best) step room (layer_at layers step) next → next ≡ [] →
-    IsSearched problem budget (ended_by best layers)
-searching_ended problem is_state budget step count room best layers next h lt r n none =
+pub searching_ended : {S : Type 0} (problem : Problem S) (roots : List (Root S)) (is_state : S → ℕ → Type 0) (budget step count room : ℕ) (best : Option Best) (layers : List (List (Kept S))) (next : List (Kept S)) →
+    IsSearching problem roots is_state budget step count best layers → count < budget → room ≡ budget - count → IsNextLayer problem (target_of best) step room (layer_at layers step) next → next ≡ [] →
+    IsSearched problem roots budget (ended_by best layers)
+searching_ended problem roots is_state budget step count room best layers next h lt r n none =
     let counted = h.counted in
-    ended_as problem budget best layers h.sound (omega arith) (cover_list problem is_state budget step count room best layers next h lt r n none) h.found
+    ended_as problem roots budget best layers h.sound (omega arith) (cover_list problem roots is_state budget step count room best layers next h lt r n none) h.found

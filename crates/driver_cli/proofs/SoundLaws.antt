@@ -7,27 +7,30 @@ use Rattle.duty_core.specs.declared.activity.Activity.{Activity}
 use Rattle.duty_core.specs.declared.activity.Activity.TheVariants.{Drive, Serve, Wait, Off, Berth}
 use Rattle.duty_core.specs.declared.mark.Mark.{Mark}
 use Rattle.rule_core.specs.declared.nexts.Next.{Next}
+use Rattle.rule_core.specs.declared.roots.Root.{Root}
 use Rattle.rule_core.specs.Reach.{IsOneOf, Reaches}
 use Rattle.rule_core.specs.ReachLaws.{reaches-append, reached_state}
 use Rattle.rule_core.specs.OneOf.{one_of-map}
 use Rattle.driver_cli.specs.declared.label.Label.{Label}
 use Rattle.driver_cli.specs.declared.label.Grown.{Grown}
 use Rattle.driver_cli.specs.declared.label.Kept.{Kept}
-use Rattle.driver_cli.specs.Schedule.{depart_from}
-use Rattle.driver_cli.specs.Problem.{Problem, root_label, departed, done, grow, successors_of, is_better, HasEta, IsReachable}
-use Rattle.driver_cli.specs.Layers.{layer_at, parent_of, acts_of, path_of, label_count, GrewFrom, NoneIsBetter, IsSound, AreDistinct, HasLabels}
-use Rattle.driver_cli.proofs.ProblemLaws.{IsProblem, IsAllowedFrom, done_after, IsLabelAt}
+use Rattle.tour_model.specs.Way.{done, done_after}
+use Rattle.tour_model.specs.Schedule.{depart_from}
+use Rattle.driver_cli.specs.Problem.{Problem, root_label, departed, grow, successors_of, is_better, HasEta, IsReachable}
+use Rattle.driver_cli.specs.Layers.{layer_at, parent_of, acts_of, root_of, path_of, label_count, GrewFrom, IsFirst, NoneIsBetter, IsSound, AreDistinct, HasLabels}
+use Rattle.driver_cli.proofs.ProblemLaws.{IsProblem, IsAllowedFrom, IsLabelAt}
 use Rattle.driver_cli.proofs.BetterLaws.{IsGrown, grown_from, better_itself}
 
--- The path is a way through the problem that gives this label at this step.
-pub record IsWay {S : Type 0} (problem : Problem S) (allowed : Activity → Bool) (step : ℕ) (xs : List Activity) (l : Label S) : Type 0 where
+-- The path is a way through the problem from this root that gives this label at this step.
+pub record IsWay {S : Type 0} (problem : Problem S) (allowed : Activity → Bool) (starts : S → Type 0) (root : S) (step : ℕ) (xs : List Activity) (l : Label S) : Type 0 where
+  pub start : starts root
   pub long : length xs ≡ step
   pub goes : IsAllowedFrom problem allowed 0 0 xs
   pub marks : List Mark
-  pub path : Reaches 1 problem.nexts problem.root 0 xs marks l.state
+  pub path : Reaches 1 problem.nexts root 0 xs marks l.state
   pub progress : l.progress ≡ done_after 0 xs
   pub depart : l.depart ≡ depart_from 0 xs
-  pub reachable : IsReachable problem step l
+  pub reachable : IsReachable problem starts step l
 
 -- an element and its place
 pub one_of_place : {X : Type 0} (xs : List X) (i : ℕ) (x : X) → slice_get xs i ≡ Some x → IsOneOf xs x
@@ -66,11 +69,11 @@ depart-snoc n (Off ∷ xs) x = depart-snoc (n + 1) xs x ∙ ap (λ m. departed (
 depart-snoc n (Berth ∷ xs) x = depart-snoc (n + 1) xs x ∙ ap (λ m. departed (depart_from (n + 1) xs) x m) (let e : n + 1 + length xs ≡ n + suc (length xs) = omega arith in e)
 
 -- the state at the end of a way
-way_state : {S : Type 0} (problem : Problem S) (is_state : S → ℕ → Type 0) (allowed : Activity → Bool) → IsProblem problem is_state allowed →
-    (step : ℕ) (xs : List Activity) (l : Label S) → IsWay problem allowed step xs l → is_state l.state step
-way_state problem is_state allowed laws step xs l w =
+way_state : {S : Type 0} (problem : Problem S) (is_state : S → ℕ → Type 0) (allowed : Activity → Bool) (starts : S → Type 0) → IsProblem problem is_state allowed → ((s : S) → starts s → is_state s 0) →
+    (root : S) (step : ℕ) (xs : List Activity) (l : Label S) → IsWay problem allowed starts root step xs l → is_state l.state step
+way_state problem is_state allowed starts laws there root step xs l w =
     let e : 0 + 1 * length xs ≡ step = (let g = w.long in omega arith) in
-    subst (is_state l.state) e (reached_state 1 is_state problem.nexts laws.next_is xs problem.root 0 w.marks l.state laws.root_is w.path)
+    subst (is_state l.state) e (reached_state 1 is_state problem.nexts laws.next_is xs root 0 w.marks l.state (there root w.start) w.path)
 
 -- what a label grows by, a schedule may hold
 tried_allowed : {S : Type 0} (problem : Problem S) (is_state : S → ℕ → Type 0) (allowed : Activity → Bool) → IsProblem problem is_state allowed →
@@ -84,54 +87,71 @@ tried_allowed problem is_state allowed laws s k x there h = elim h [
 ]
 
 -- a way goes on by what a label grows to
-way_more : {S : Type 0} (problem : Problem S) (is_state : S → ℕ → Type 0) (allowed : Activity → Bool) → IsProblem problem is_state allowed →
-    (step : ℕ) (xs : List Activity) (l : Label S) (g : Grown S) → IsWay problem allowed step xs l → IsOneOf (successors_of problem step l) g → HasEta problem (suc step) g.label →
-    IsWay problem allowed (suc step) (xs ++ g.act ∷ []) g.label
-way_more problem is_state allowed laws step xs l g w o eta =
+way_more : {S : Type 0} (problem : Problem S) (is_state : S → ℕ → Type 0) (allowed : Activity → Bool) (starts : S → Type 0) → IsProblem problem is_state allowed → ((s : S) → starts s → is_state s 0) →
+    (root : S) (step : ℕ) (xs : List Activity) (l : Label S) (g : Grown S) → IsWay problem allowed starts root step xs l → IsOneOf (successors_of problem step l) g → HasEta problem (suc step) g.label →
+    IsWay problem allowed starts root (suc step) (xs ++ g.act ∷ []) g.label
+way_more problem is_state allowed starts laws roots root step xs l g w o eta =
     let q = grown_from problem step l g o in
-    let there = way_state problem is_state allowed laws step xs l w in
+    let there = way_state problem is_state allowed starts laws roots root step xs l w in
     let ok = tried_allowed problem is_state allowed laws l.state step q.by there q.tried in
     let at : 0 + length xs ≡ step = (let e = w.long in omega arith) in
     let unit : step ≡ 0 + 1 * length xs = (let e = w.long in omega arith) in
     let act : q.by ≡ g.act = ap (λ r. r.act) q.is in
-    subst (λ x. IsWay problem allowed (suc step) (xs ++ x ∷ []) g.label) act
+    subst (λ x. IsWay problem allowed starts root (suc step) (xs ++ x ∷ []) g.label) act
     (record {
+      start = w.start;
       long = (let e = w.long in omega (arith, length-append xs (q.by ∷ [])));
       goes = allowed_more problem allowed 0 0 xs q.by w.goes (subst (λ n. problem.may n (done_after 0 xs) q.by ≡ true) (sym at) (subst (λ p. problem.may step p q.by ≡ true) w.progress q.may)) ok;
       marks = w.marks ++ option_to_list q.next.mark;
-      path = subst (Reaches 1 problem.nexts problem.root 0 (xs ++ q.by ∷ []) (w.marks ++ option_to_list q.next.mark)) (ap (λ r. r.label.state) q.is)
-          (reaches-append 1 problem.nexts xs (q.by ∷ []) problem.root 0 w.marks l.state (option_to_list q.next.mark) q.next.state w.path
+      path = subst (Reaches 1 problem.nexts root 0 (xs ++ q.by ∷ []) (w.marks ++ option_to_list q.next.mark)) (ap (λ r. r.label.state) q.is)
+        (reaches-append 1 problem.nexts xs (q.by ∷ []) root 0 w.marks l.state (option_to_list q.next.mark) q.next.state w.path
           (q.next, subst (λ n. IsOneOf (problem.nexts l.state n q.by) q.next) unit q.follows, [], sym (append-nil (option_to_list q.next.mark)), (refl, refl)));
       progress = sym (ap (λ r. r.label.progress) q.is) ∙ (ap (λ p. done p q.by) w.progress ∙ sym (done_more 0 xs q.by));
       depart = sym (ap (λ r. r.label.depart) q.is) ∙ (ap (λ d. departed d q.by step) w.depart ∙ (ap (λ n. departed (depart_from 0 xs) q.by n) (sym at) ∙ sym (depart-snoc 0 xs q.by)));
       reachable = (l, w.reachable, g, o, refl, eta);
     })
 
-root_way : {S : Type 0} (problem : Problem S) (allowed : Activity → Bool) (l : Label S) → root_label problem ≡ l → HasEta problem 0 l → IsWay problem allowed 0 [] l
-root_way problem allowed l e eta = record {
+root_way : {S : Type 0} (problem : Problem S) (allowed : Activity → Bool) (starts : S → Type 0) (s : S) (l : Label S) → starts s → root_label s ≡ l → HasEta problem 0 l → IsWay problem allowed starts s 0 [] l
+root_way problem allowed starts s l start e eta = record {
+  start = start;
   long = refl;
   goes = tt;
   marks = [];
   path = (ap (λ m. m.state) e, refl);
   progress = sym (ap (λ m. m.progress) e);
   depart = sym (ap (λ m. m.depart) e);
-  reachable = (e, eta);
+  reachable = (s, start, e, eta);
 }
 
-pub sound_way : {S : Type 0} (problem : Problem S) (is_state : S → ℕ → Type 0) (allowed : Activity → Bool) (layers : List (List (Kept S))) →
-    IsProblem problem is_state allowed → IsSound problem layers →
-    (step index : ℕ) (k : Kept S) → slice_get (layer_at layers step) index ≡ Some k → IsWay problem allowed step (path_of layers step index) k.label
-sound_way problem is_state allowed layers laws sound zero index k there =
+-- Behind a label of sound layers stands a root, by its place, and a way from it.
+pub record IsGrownFromRoot {S : Type 0} (problem : Problem S) (allowed : Activity → Bool) (starts : S → Type 0) (roots : List (Root S)) (place step : ℕ) (xs : List Activity) (l : Label S) : Type 0 where
+  pub root : Root S
+  pub there : slice_get roots place ≡ Some root
+  pub way : IsWay problem allowed starts root.state step xs l
+
+pub sound_way : {S : Type 0} (problem : Problem S) (is_state : S → ℕ → Type 0) (allowed : Activity → Bool) (starts : S → Type 0) (roots : List (Root S)) (layers : List (List (Kept S))) →
+    IsProblem problem is_state allowed → ((s : S) → starts s → is_state s 0) → ((r : Root S) → IsOneOf roots r → starts r.state) → IsSound problem roots layers →
+    (step index : ℕ) (k : Kept S) → slice_get (layer_at layers step) index ≡ Some k →
+    IsGrownFromRoot problem allowed starts roots (root_of layers step index) step (path_of layers step index) k.label
+sound_way problem is_state allowed starts roots layers laws states begins sound zero index k there =
     let f = sound.first k (one_of_place (layer_at layers 0) index k there) in
-    root_way problem allowed k.label (sym f.0) f.1
-sound_way problem is_state allowed layers laws sound (suc step) index k there =
+    record {
+      root = f.root;
+      there = ap (λ o. slice_get roots (parent_of o)) there ∙ f.there;
+      way = root_way problem allowed starts f.root.state k.label (begins f.root (one_of_place roots k.parent f.root f.there)) (sym f.label) f.has_eta;
+    }
+sound_way problem is_state allowed starts roots layers laws states begins sound (suc step) index k there =
     let one : step + 1 ≡ suc step = add-one step in
     let f = sound.later step k (subst (λ n. IsOneOf (layer_at layers n) k) (sym one) (one_of_place (layer_at layers (suc step)) index k there)) in
-    let w = sound_way problem is_state allowed layers laws sound step k.parent f.parent f.there in
+    let w = sound_way problem is_state allowed starts roots layers laws states begins sound step k.parent f.parent f.there in
     let p : path_of layers step k.parent ++ k.act ∷ [] ≡ path_of layers (suc step) index = sym (ap (λ o. path_of layers step (parent_of o) ++ acts_of o) there) in
-    subst (λ xs. IsWay problem allowed (suc step) xs k.label) p
-    (way_more problem is_state allowed laws step (path_of layers step k.parent) f.parent.label (record { label = k.label; act = k.act; mark = k.mark }) w f.grown
-    (subst (λ n. HasEta problem n k.label) one f.has_eta))
+    record {
+      root = w.root;
+      there = ap (λ o. slice_get roots (root_of layers step (parent_of o))) there ∙ w.there;
+      way = subst (λ xs. IsWay problem allowed starts w.root.state (suc step) xs k.label) p
+        (way_more problem is_state allowed starts laws states w.root.state step (path_of layers step k.parent) f.parent.label (record { label = k.label; act = k.act; mark = k.mark }) w.way f.grown
+          (subst (λ n. HasEta problem n k.label) one f.has_eta));
+    }
 
 -- what has done anything has departed
 departs_where_done : (n p : ℕ) (xs : List Activity) → p < done_after p xs → (d : ℕ) × (depart_from n xs ≡ Some d) × (d ≤ n + length xs)
@@ -143,15 +163,16 @@ departs_where_done n p (Off ∷ xs) h = let q = departs_where_done (n + 1) p xs 
 departs_where_done n p (Berth ∷ xs) h = let q = departs_where_done (n + 1) p xs h in (q.0, q.1, (let i = q.2 in omega arith))
 
 -- each label of sound layers is one of its step
-pub sound_label : {S : Type 0} (problem : Problem S) (is_state : S → ℕ → Type 0) (allowed : Activity → Bool) (layers : List (List (Kept S))) →
-    IsProblem problem is_state allowed → IsSound problem layers →
+pub sound_label : {S : Type 0} (problem : Problem S) (is_state : S → ℕ → Type 0) (allowed : Activity → Bool) (starts : S → Type 0) (roots : List (Root S)) (layers : List (List (Kept S))) →
+    IsProblem problem is_state allowed → ((s : S) → starts s → is_state s 0) → ((r : Root S) → IsOneOf roots r → starts r.state) → IsSound problem roots layers →
     (step : ℕ) (k : Kept S) → IsOneOf (layer_at layers step) k → IsLabelAt is_state step k.label
-sound_label problem is_state allowed layers laws sound step k h =
+sound_label problem is_state allowed starts roots layers laws states begins sound step k h =
     let i = place_of_one (layer_at layers step) k h in
     let xs = path_of layers step i.0 in
-    let w = sound_way problem is_state allowed layers laws sound step i.0 k i.1 in
+    let b = sound_way problem is_state allowed starts roots layers laws states begins sound step i.0 k i.1 in
+    let w = b.way in
     record {
-      state = way_state problem is_state allowed laws step xs k.label w;
+      state = way_state problem is_state allowed starts laws states b.root.state step xs k.label w;
       departed = λ some.
           let q = departs_where_done 0 0 xs (let e = w.progress in omega arith) in
           (q.0, w.depart ∙ q.1, (let j = q.2 in let e = w.long in omega arith));
@@ -179,24 +200,23 @@ count-bare (ks ∷ layers) =
 distinct_of : {S : Type 0} (problem : Problem S) (is_state : S → ℕ → Type 0) (allowed : Activity → Bool) → IsProblem problem is_state allowed →
     (step : ℕ) (ks : List (Kept S)) → ((k : Kept S) → IsOneOf ks k → is_state k.label.state step) → NoneIsBetter problem step ks → AreDistinct (bare ks)
 distinct_of problem is_state allowed laws step [] states none = tt
-distinct_of problem is_state allowed laws step (k ∷ ks) states none = (
-  (λ i. let q = one_of-map (λ m. m.label) ks k.label i in
+distinct_of problem is_state allowed laws step (k ∷ ks) states none =
+    ((λ i. let q = one_of-map (λ m. m.label) ks k.label i in
       let e : is_better problem step k.label k.label ≡ false = subst (λ l. is_better problem step k.label l ≡ false) q.2 (none.0 q.0 q.1) in
       let f : is_better problem step k.label k.label ≡ true = better_itself problem is_state allowed laws step k.label (states k (inl refl)) in
       let z : true ≡ false = sym f ∙ e in cc),
-  distinct_of problem is_state allowed laws step ks (λ m i. states m (inr i)) none.1,
-)
+    distinct_of problem is_state allowed laws step ks (λ m i. states m (inr i)) none.1)
 
 -- The labels of sound layers are distinct reachable labels.
-pub sound_labels : {S : Type 0} (problem : Problem S) (is_state : S → ℕ → Type 0) (allowed : Activity → Bool) (layers : List (List (Kept S))) (n : ℕ) →
-    IsProblem problem is_state allowed → IsSound problem layers → n ≤ label_count layers → HasLabels problem n
-sound_labels problem is_state allowed layers n laws sound many = record {
+pub sound_labels : {S : Type 0} (problem : Problem S) (is_state : S → ℕ → Type 0) (allowed : Activity → Bool) (starts : S → Type 0) (roots : List (Root S)) (layers : List (List (Kept S))) (n : ℕ) →
+    IsProblem problem is_state allowed → ((s : S) → starts s → is_state s 0) → ((r : Root S) → IsOneOf roots r → starts r.state) → IsSound problem roots layers → n ≤ label_count layers → HasLabels problem starts n
+sound_labels problem is_state allowed starts roots layers n laws states begins sound many = record {
   layers = map bare layers;
   reachable = λ step l h.
       let q = one_of-map (λ k. k.label) (layer_at layers step) l (subst (λ ls. IsOneOf ls l) (layer_at-bare layers step) h) in
       let i = place_of_one (layer_at layers step) q.0 q.1 in
-      subst (IsReachable problem step) q.2 (sound_way problem is_state allowed layers laws sound step i.0 q.0 i.1).reachable;
+      subst (IsReachable problem starts step) q.2 (sound_way problem is_state allowed starts roots layers laws states begins sound step i.0 q.0 i.1).way.reachable;
   distinct = λ step. subst AreDistinct (sym (layer_at-bare layers step))
-      (distinct_of problem is_state allowed laws step (layer_at layers step) (λ k h. (sound_label problem is_state allowed layers laws sound step k h).state) (sound.better step));
+      (distinct_of problem is_state allowed laws step (layer_at layers step) (λ k h. (sound_label problem is_state allowed starts roots layers laws states begins sound step k h).state) (sound.better step));
   count = subst (λ m. n ≤ m) (sym (count-bare layers)) many;
 }

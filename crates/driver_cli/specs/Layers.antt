@@ -1,6 +1,7 @@
 -- Layers of labels: those that a search keeps at each step.
 use Rattle.std.specs.Prelude.{◌≡◌, ℕ, ◌+◌, ◌-◌, ◌<◌, ◌≤◌, Bool, true, false, List, [], ◌∷◌, ◌++◌, ◌⊎◌, zero, suc, length, map, sum_by, Option, None, Some, unwrap_or, slice_get, slice_index_or}
 use Rattle.duty_core.specs.declared.activity.Activity.{Activity}
+use Rattle.rule_core.specs.declared.roots.Root.{Root}
 use Rattle.rule_core.specs.Reach.{IsOneOf}
 use Rattle.driver_cli.specs.declared.label.Label.{Label}
 use Rattle.driver_cli.specs.declared.label.Grown.{Grown}
@@ -43,8 +44,9 @@ IsAnsweredLayer {S} problem target step layer next =
     IsLetOff problem target (step + 1) g.label ⊎ IsCovered problem (step + 1) next g.label
 
 -- From such layers it follows that no solution takes less than the target, and where there is no target, that there is none.
-pub record IsCoverList {S : Type 0} (problem : Problem S) (target : Option ℕ) (layers : List (List (Kept S))) : Type 0 where
-  pub starts : HasEta problem 0 (root_label problem) → IsCovered problem 0 (layer_at layers 0) (root_label problem)
+-- The driver may start in the states of which `starts` holds.
+pub record IsCoverList {S : Type 0} (problem : Problem S) (starts : S → Type 0) (target : Option ℕ) (layers : List (List (Kept S))) : Type 0 where
+  pub started : (s : S) → starts s → HasEta problem 0 (root_label s) → IsCovered problem 0 (layer_at layers 0) (root_label s)
   pub finished : (step : ℕ) (k : Kept S) → IsOneOf (layer_at layers step) k → k.label.progress ≡ problem.goal → IsAtLeast target (taken step k.label)
   pub answered : (step : ℕ) → IsAnsweredLayer problem target step (layer_at layers step) (layer_at layers (step + 1))
 
@@ -55,14 +57,21 @@ pub record GrewFrom {S : Type 0} (problem : Problem S) (step : ℕ) (layer : Lis
   pub grown : IsOneOf (successors_of problem step parent.label) (record { label = k.label; act = k.act; mark = k.mark })
   pub has_eta : HasEta problem (step + 1) k.label
 
+-- The label of the first layer is that of the root at the place of its parent, and can be finished.
+pub record IsFirst {S : Type 0} (problem : Problem S) (roots : List (Root S)) (k : Kept S) : Type 0 where
+  pub root : Root S
+  pub there : slice_get roots k.parent ≡ Some root
+  pub label : k.label ≡ root_label root.state
+  pub has_eta : HasEta problem 0 k.label
+
 -- No label of the list has an earlier one that is better.
 abbrev pub NoneIsBetter : {S : Type 0} → Problem S → ℕ → List (Kept S) → Type 0
 NoneIsBetter problem step [] = Unit {0}
 NoneIsBetter {S} problem step (k ∷ ks) = ((m : Kept S) → IsOneOf ks m → is_better problem step k.label m.label ≡ false) × NoneIsBetter problem step ks
 
--- Each label of the layers is reached through its parents, and none has an earlier better one in its layer.
-pub record IsSound {S : Type 0} (problem : Problem S) (layers : List (List (Kept S))) : Type 0 where
-  pub first : (k : Kept S) → IsOneOf (layer_at layers 0) k → (k.label ≡ root_label problem) × HasEta problem 0 k.label
+-- Each label of the layers is reached from a root through its parents, and none has an earlier better one in its layer.
+pub record IsSound {S : Type 0} (problem : Problem S) (roots : List (Root S)) (layers : List (List (Kept S))) : Type 0 where
+  pub first : (k : Kept S) → IsOneOf (layer_at layers 0) k → IsFirst problem roots k
   pub later : (step : ℕ) (k : Kept S) → IsOneOf (layer_at layers (step + 1)) k → GrewFrom problem step (layer_at layers step) k
   pub better : (step : ℕ) → NoneIsBetter problem step (layer_at layers step)
 
@@ -79,6 +88,11 @@ abbrev pub acts_of : {S : Type 0} → Option (Kept S) → List Activity
 acts_of None = []
 acts_of (Some k) = k.act ∷ []
 
+-- the place of the root from which the label at this place of the layer of this step grew
+abbrev pub root_of : {S : Type 0} → List (List (Kept S)) → ℕ → ℕ → ℕ
+root_of layers zero index = parent_of (slice_get (layer_at layers zero) index)
+root_of layers (suc step) index = root_of layers step (parent_of (slice_get (layer_at layers (suc step)) index))
+
 -- the activities along the parents, to the label at this place of the layer of this step
 abbrev pub path_of : {S : Type 0} → List (List (Kept S)) → ℕ → ℕ → List Activity
 path_of layers zero index = []
@@ -91,8 +105,8 @@ AreDistinct [] = Unit {0}
 AreDistinct (x ∷ xs) = (IsOneOf xs x → ⊥) × AreDistinct xs
 
 -- There are at least so many labels that are reachable and can still be finished, over all steps.
-pub record HasLabels {S : Type 0} (problem : Problem S) (n : ℕ) : Type 0 where
+pub record HasLabels {S : Type 0} (problem : Problem S) (starts : S → Type 0) (n : ℕ) : Type 0 where
   pub layers : List (List (Label S))
-  pub reachable : (step : ℕ) (l : Label S) → IsOneOf (layer_at layers step) l → IsReachable problem step l
+  pub reachable : (step : ℕ) (l : Label S) → IsOneOf (layer_at layers step) l → IsReachable problem starts step l
   pub distinct : (step : ℕ) → AreDistinct (layer_at layers step)
   pub count : n ≤ label_count layers

@@ -1,16 +1,6 @@
-pub mod Tour
-pub mod Schedule
 pub mod Problem
 pub mod Layers
 pub mod Planning
-pub mod Form
-pub mod FormLaws
 pub mod Plain
 pub mod Searching
 pub mod Planned
-pub mod Texts
-pub mod Status
-pub mod Sent
-pub mod Judged
-pub mod Answers
-pub mod Exact

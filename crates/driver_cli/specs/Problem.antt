@@ -4,7 +4,7 @@ use Rattle.duty_core.specs.declared.activity.Activity.{Activity}
 use Rattle.duty_core.specs.declared.activity.Activity.TheVariants.{Drive, Serve}
 use Rattle.rule_core.specs.declared.nexts.Next.{Next}
 use Rattle.rule_core.specs.Reach.{IsOneOf}
-use Rattle.driver_cli.specs.Schedule.{progresses}
+use Rattle.tour_model.specs.Way.{progresses, done}
 use Rattle.driver_cli.specs.declared.label.Label.{Label}
 use Rattle.driver_cli.specs.declared.label.Grown.{Grown}
 
@@ -22,20 +22,14 @@ pub record Problem (S : Type 0) : Type 0 where
   pub covers : S → S → ℕ → Bool
   -- the idle activities to try
   pub tries : S → List Activity
-  -- the state at the start
-  pub root : S
 
 -- the departure after this step of an activity
 abbrev pub departed : Option ℕ → Activity → ℕ → Option ℕ
 departed depart x step = if progresses x then Some (unwrap_or depart step) else depart
 
--- the progress after an activity
-abbrev pub done : ℕ → Activity → ℕ
-done progress x = if progresses x then progress + 1 else progress
-
--- the label at the start
-abbrev pub root_label : {S : Type 0} → Problem S → Label S
-root_label problem = record { depart = None; progress = 0; state = problem.root }
+-- the label at the start, in this state
+abbrev pub root_label : {S : Type 0} → S → Label S
+root_label s = record { depart = None; progress = 0; state = s }
 
 -- what this step of an activity makes of a label
 abbrev pub grow : {S : Type 0} → Label S → ℕ → Activity → Next S → Grown S
@@ -64,7 +58,7 @@ pub record HasEta {S : Type 0} (problem : Problem S) (step : ℕ) (l : Label S) 
   pub eta : ℕ
   pub is : problem.eta step l.progress ≡ Some eta
 
--- A label is reachable at the start where it is the first label, and later where it grows from a reachable one; it can still be finished.
-abbrev pub IsReachable : {S : Type 0} → Problem S → ℕ → Label S → Type 0
-IsReachable problem zero l = (root_label problem ≡ l) × HasEta problem zero l
-IsReachable {S} problem (suc step) l = (b : Label S) × IsReachable problem step b × (g : Grown S) × IsOneOf (successors_of problem step b) g × (g.label ≡ l) × HasEta problem (suc step) l
+-- A label is reachable at the start where it is the first label of a state that the driver may start in, and later where it grows from a reachable one; it can still be finished.
+abbrev pub IsReachable : {S : Type 0} → Problem S → (S → Type 0) → ℕ → Label S → Type 0
+IsReachable {S} problem starts zero l = (s : S) × starts s × (root_label s ≡ l) × HasEta problem zero l
+IsReachable {S} problem starts (suc step) l = (b : Label S) × IsReachable problem starts step b × (g : Grown S) × IsOneOf (successors_of problem step b) g × (g.label ≡ l) × HasEta problem (suc step) l

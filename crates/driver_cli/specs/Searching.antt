@@ -11,20 +11,19 @@ use Rattle.driver_cli.specs.declared.by_layers.Place.{Place}
 use Rattle.driver_cli.specs.declared.by_layers.Best.{Best}
 use Rattle.driver_cli.specs.declared.by_layers.Searched.{Searched}
 use Rattle.driver_cli.specs.declared.by_layers.Searched.TheVariants.{Found, Never, Spent}
-use Rattle.driver_cli.specs.declared.tour.Tour.{Tour}
-use Rattle.driver_cli.specs.Tour.{eta_of}
+use Rattle.rule_core.specs.declared.roots.Root.{Root}
 use Rattle.driver_cli.specs.Problem.{Problem, root_label, is_better, HasEta}
-use Rattle.driver_cli.specs.Layers.{layer_at, IsCovered, IsAtLeast, taken, IsLetOff, IsAnsweredLayer, IsCoverList, GrewFrom, NoneIsBetter, IsSound, label_count}
-use Rattle.driver_cli.specs.Planning.{minute_of}
+use Rattle.driver_cli.specs.Layers.{layer_at, IsCovered, IsAtLeast, taken, IsLetOff, IsAnsweredLayer, IsCoverList, GrewFrom, IsFirst, NoneIsBetter, IsSound, label_count}
+use Rattle.driver_cli.specs.Planning.{IsRootState}
 
--- The label's state is one of the step's minute, and it has done no more than there is to do.
+-- The label's state is one of the step, and it has done no more than there is to do.
 pub record IsLabelAt {S : Type 0} (is_state : S → ℕ → Type 0) (goal step : ℕ) (l : Label S) : Type 0 where
-  pub state : is_state l.state (minute_of step)
+  pub state : is_state l.state step
   pub progress : l.progress ≤ goal
 
--- Each label's state is one of the step's minute.
+-- Each label's state is one of the step.
 abbrev pub AreStatesAt : {S : Type 0} → (S → ℕ → Type 0) → ℕ → List (Kept S) → Type 0
-AreStatesAt {S} is_state step layer = (k : Kept S) → IsOneOf layer k → is_state k.label.state (minute_of step)
+AreStatesAt {S} is_state step layer = (k : Kept S) → IsOneOf layer k → is_state k.label.state step
 
 -- Each label of the layer is one of the step.
 abbrev pub AreLabelsAt : {S : Type 0} → (S → ℕ → Type 0) → ℕ → ℕ → List (Kept S) → Type 0
@@ -77,14 +76,12 @@ pub record IsNextLayer {S : Type 0} (problem : Problem S) (best : Option ℕ) (s
   pub bounded : length next ≤ room
   pub answered : length next < room → IsAnsweredLayer problem best step layer next
 
--- the root's label, as the first layer keeps it
-abbrev pub root_kept : {S : Type 0} → Problem S → Kept S
-root_kept problem = record { label = root_label problem; parent = 0; act = Off; mark = None }
-
--- the first layer: the root's label, where it can be finished by this step
-abbrev pub first_layer_of : {S : Type 0} → Problem S → Option ℕ → List (Kept S)
-first_layer_of problem None = []
-first_layer_of problem (Some eta) = root_kept problem ∷ []
+-- The first layer: its labels are those of roots, none has an earlier better one, there are at most `room`; and where there are fewer, each root has its label, or a better one, or cannot finish.
+pub record IsFirstLayer {S : Type 0} (problem : Problem S) (room : ℕ) (roots : List (Root S)) (layer : List (Kept S)) : Type 0 where
+  pub first : (k : Kept S) → IsOneOf layer k → IsFirst problem roots k
+  pub better : NoneIsBetter problem 0 layer
+  pub bounded : length layer ≤ room
+  pub started : length layer < room → (root : Root S) → IsOneOf roots root → IsLetOff problem None 0 (root_label root.state) ⊎ IsCovered problem 0 layer (root_label root.state)
 
 -- whether a label that ends at this step takes at least the best duration; one that has not departed takes no time yet
 abbrev pub is_long : Option ℕ → Option ℕ → ℕ → Bool
@@ -123,30 +120,30 @@ pub record IsBestWith {S : Type 0} (goal : ℕ) (l : Label S) (place : Place) (o
   pub made : (b : Best) → new ≡ Some b → (old ≡ Some b) ⊎ ((b ≡ record { takes = taken place.layer l; place = place }) × (l.progress ≡ goal))
 
 -- The layers are sound, the label at this place is finished, nothing takes less than it does, and the budget is not spent.
-pub record IsFound {S : Type 0} (problem : Problem S) (budget : ℕ) (layers : List (List (Kept S))) (place : Place) : Type 0 where
-  pub sound : IsSound problem layers
+pub record IsFound {S : Type 0} (problem : Problem S) (roots : List (Root S)) (budget : ℕ) (layers : List (List (Kept S))) (place : Place) : Type 0 where
+  pub sound : IsSound problem roots layers
   pub best : Kept S
   pub there : slice_get (layer_at layers place.layer) place.index ≡ Some best
   pub finished : best.label.progress ≡ problem.goal
-  pub covers : IsCoverList problem (Some (taken place.layer best.label)) layers
+  pub covers : IsCoverList problem (IsRootState roots) (Some (taken place.layer best.label)) layers
   pub count : label_count layers < budget
 
 -- The layers are sound, nothing can be finished, and the budget is not spent.
-pub record IsNever {S : Type 0} (problem : Problem S) (budget : ℕ) (layers : List (List (Kept S))) : Type 0 where
-  pub sound : IsSound problem layers
-  pub covers : IsCoverList problem None layers
+pub record IsNever {S : Type 0} (problem : Problem S) (roots : List (Root S)) (budget : ℕ) (layers : List (List (Kept S))) : Type 0 where
+  pub sound : IsSound problem roots layers
+  pub covers : IsCoverList problem (IsRootState roots) None layers
   pub count : label_count layers < budget
 
 -- The layers are sound, and hold as many labels as the budget allows.
-pub record IsSpent {S : Type 0} (problem : Problem S) (budget : ℕ) (layers : List (List (Kept S))) : Type 0 where
-  pub sound : IsSound problem layers
+pub record IsSpent {S : Type 0} (problem : Problem S) (roots : List (Root S)) (budget : ℕ) (layers : List (List (Kept S))) : Type 0 where
+  pub sound : IsSound problem roots layers
   pub count : label_count layers ≡ budget
 
 -- what a search with this budget of labels answers
-abbrev pub IsSearched : {S : Type 0} → Problem S → ℕ → Searched S → Type 0
-IsSearched problem budget (Found layers place) = IsFound problem budget layers place
-IsSearched problem budget (Never layers) = IsNever problem budget layers
-IsSearched problem budget (Spent layers) = IsSpent problem budget layers
+abbrev pub IsSearched : {S : Type 0} → Problem S → List (Root S) → ℕ → Searched S → Type 0
+IsSearched problem roots budget (Found layers place) = IsFound problem roots budget layers place
+IsSearched problem roots budget (Never layers) = IsNever problem roots budget layers
+IsSearched problem roots budget (Spent layers) = IsSpent problem roots budget layers
 
 -- what was found where no label is left to grow
 abbrev pub ended_by : {S : Type 0} → Option Best → List (List (Kept S)) → Searched S

@@ -1,16 +1,18 @@
 //! The search by layers.
-ghost use Rattle.std.specs.Prelude.{◌≡◌, ℕ, ◌+◌, ◌<◌, ◌≤◌, length, IfOk};
-ghost use Rattle.driver_cli.specs.Tour.{IsTour, word_length, eta_of};
+ghost use Rattle.std.specs.Prelude.{◌≡◌, ℕ, ◌+◌, ◌^◌, ◌<◌, ◌≤◌, length, IfOk};
+ghost use Rattle.tour_model.specs.Tour.{IsTour};
+ghost use Rattle.tour_model.specs.Word.{word_length};
+ghost use Rattle.rule_core.specs.Replay.{AreRootStates};
 ghost use Rattle.driver_cli.specs.Planning.{problem_of};
-ghost use Rattle.driver_cli.specs.Searching.{first_layer_of, target_of, ended_by, IsBestOf, IsBestWith, IsSearched};
+ghost use Rattle.driver_cli.specs.Searching.{target_of, ended_by, IsBestOf, IsBestWith, IsSearched};
 
 use crate::label::{Kept, Label};
-use crate::layer::{Limits, next_layer};
+use crate::layer::{Limits, first_layer, next_layer};
 use crate::layer_list::Layers;
-use crate::tour::{PARAMS, START, Tour};
-use duty_core::{Activity, NoMemory};
-use rule_core::RuleBook;
+use duty_core::NoMemory;
+use rule_core::{Root, RuleBook};
 use std::alloc::Global;
+use tour_model::Tour;
 
 /// The place of a label: its layer, which is its step, and its place there.
 #[derive(Clone, Copy, Debug, PartialEq, Eq)]
@@ -84,35 +86,6 @@ fn target(best: Option<Best>) -> Option<u32>
     }
 }
 
-/// The first layer: the label at the start, where the tour can be finished from there.
-fn first_layer<B: RuleBook>(
-    alloc: Global,
-    book: &B,
-    tour: &Tour,
-) -> Result<Vec<Kept<B::State>>, NoMemory>
-    requires tour { IsTour tour.now }
-    requires params { B.params_of book.now ≡ PARAMS }
-    ensures layer { IfOk result (λ layer. layer.items ≡ first_layer_of (problem_of tour.now (B.root_of book.now START)
-        (B.advances_of book.now) (B.covering book.now) (B.idles_of book.now)) (eta_of tour.now 0 0)) }
-{
-    let mut layer = Vec::new(alloc);
-    if tour.eta(0, 0).is_none() {
-        return Ok(layer);
-    }
-    let label = Label {
-        depart: None,
-        progress: 0,
-        state: book.root(START)?,
-    };
-    layer.push(Kept {
-        label,
-        parent: 0,
-        act: Activity::Off,
-        mark: None,
-    })?;
-    Ok(layer)
-}
-
 /// What was found where no label is left to grow.
 fn ended<S>(layers: Layers<S>, best: Option<Best>) -> Searched<S>
     ensures { result ≡ ended_by best layers }
@@ -126,23 +99,25 @@ fn ended<S>(layers: Layers<S>, best: Option<Best>) -> Searched<S>
     }
 }
 
-/// Searches for a shortest solution of the tour, layer by layer, with at most so many labels, from 1
-/// to 500,000.
+/// Searches for a shortest solution of the tour behind the log that left these roots, layer by layer,
+/// with at most so many labels, from 1 to 500,000.
 pub fn search<B: RuleBook>(
     alloc: Global,
     book: &B,
     tour: &Tour,
+    roots: &[Root<B::State>],
     budget: u32,
 ) -> Result<Searched<B::State>, NoMemory>
     requires tour { IsTour tour.now }
-    requires params { B.params_of book.now ≡ PARAMS }
+    requires roots { AreRootStates (B.is_state_at book.now) tour.now.start roots.now }
+    requires few { length roots.now < 2 ^ 32 }
+    requires params { B.params_of book.now ≡ tour.now.params }
     requires some { 1 ≤ budget }
     requires most { budget ≤ 500000 }
-    ensures searched { IfOk result (λ searched. IsSearched (problem_of tour.now (B.root_of book.now START)
-        (B.advances_of book.now) (B.covering book.now) (B.idles_of book.now)) budget searched) }
+    ensures searched { IfOk result (λ searched. IsSearched (problem_of tour.now (B.advances_of book.now) (B.covering book.now) (B.idles_of book.now)) roots.now budget searched) }
 {
     let goal = tour.word_len();
-    let first = first_layer(alloc, book, tour)?;
+    let first = first_layer(alloc, book, tour, roots, budget as usize)?;
     let mut layers = Layers::new(alloc);
     let mut count = first.len();
     layers.push_layer(first)?;

@@ -2,22 +2,33 @@
 ghost use Rattle.std.specs.Prelude.{◌≡◌, ℕ, ◌+◌, ◌<◌, ◌≤◌, ◌++◌, List, map, IfOk, OnOk};
 ghost use Rattle.std.specs.Option.{option_to_list};
 ghost use Rattle.rule_core.specs.Reach.{listed};
-ghost use Rattle.driver_cli.specs.Tour.{IsTour, word_length};
+ghost use Rattle.tour_model.specs.Tour.{IsTour};
+ghost use Rattle.tour_model.specs.Word.{word_length};
+ghost use Rattle.tour_model.specs.Schedule.{step_units};
 ghost use Rattle.driver_cli.specs.Problem.{grow, grown_by, successors_of};
 ghost use Rattle.driver_cli.specs.Planning.{problem_of, minute_of};
 
 use crate::label::{Grown, Label};
-use crate::tour::{GRID, PARAMS, START, Tour};
-use duty_core::{Activity, Minute, NoMemory};
+use duty_core::{Activity, Minute, NoMemory, unit_of};
 use rule_core::{Idles, Next, Nexts, RuleBook};
 use std::alloc::Global;
+use tour_model::Tour;
 
-/// The civil minute at which a step begins.
-pub fn minute_at(step: u32) -> Minute
-    requires { step < 1000000 }
-    ensures { result ≡ minute_of step }
+/// The civil minute at which a step of the tour begins.
+pub fn minute_at(tour: &Tour, step: u32) -> Minute
+    requires tour { IsTour tour.now }
+    requires step { step < 1000000 }
+    ensures { result ≡ minute_of tour.now step }
 {
-    START + GRID * step
+    tour.start + tour.grid * step
+}
+
+/// The number of the book's units in a step of the tour.
+fn units_of_step(tour: &Tour) -> u32
+    requires { IsTour tour.now }
+    ensures { result ≡ step_units tour.now }
+{
+    tour.grid / unit_of(tour.params)
 }
 
 /// What a step of the activity makes of the label, where it leads to this state.
@@ -89,17 +100,17 @@ fn push_by<B: RuleBook>(
     act: Activity,
 ) -> Result<(), NoMemory>
     requires tour { IsTour tour.now }
-    requires params { B.params_of book.now ≡ PARAMS }
-    requires state { B.is_state_at book.now label.now.state (minute_of step) }
+    requires params { B.params_of book.now ≡ tour.now.params }
+    requires state { B.is_state_at book.now label.now.state (minute_of tour.now step) }
     requires progress { label.now.progress ≤ word_length tour.now }
     requires step { step < 1000000 }
     ensures ok { OnOk result (list.new.items ≡ list.old.items
-        ++ grown_by (problem_of tour.now (B.root_of book.now START) (B.advances_of book.now) (B.covering book.now) (B.idles_of book.now)) step label.now act) }
+        ++ grown_by (problem_of tour.now (B.advances_of book.now) (B.covering book.now) (B.idles_of book.now)) step label.now act) }
 {
     if !tour.may_do(step, label.progress, act) {
         return Ok(());
     }
-    let nexts = book.advance(&label.state, minute_at(step), act, GRID)?;
+    let nexts = book.advance(&label.state, minute_at(tour, step), act, units_of_step(tour))?;
     push_nexts(list, label, step, act, nexts)?;
     Ok(())
 }
@@ -114,12 +125,11 @@ pub fn successors<B: RuleBook>(
     step: u32,
 ) -> Result<Vec<Grown<B::State>>, NoMemory>
     requires tour { IsTour tour.now }
-    requires params { B.params_of book.now ≡ PARAMS }
-    requires state { B.is_state_at book.now label.now.state (minute_of step) }
+    requires params { B.params_of book.now ≡ tour.now.params }
+    requires state { B.is_state_at book.now label.now.state (minute_of tour.now step) }
     requires progress { label.now.progress ≤ word_length tour.now }
     requires step { step < 1000000 }
-    ensures ok { IfOk result (λ list. list.items ≡ successors_of (problem_of tour.now (B.root_of book.now START)
-        (B.advances_of book.now) (B.covering book.now) (B.idles_of book.now)) step label.now) }
+    ensures ok { IfOk result (λ list. list.items ≡ successors_of (problem_of tour.now (B.advances_of book.now) (B.covering book.now) (B.idles_of book.now)) step label.now) }
 {
     let mut list = Vec::new(alloc);
     push_by(&mut list, book, tour, label, step, Activity::Drive)?;

@@ -1,17 +1,18 @@
 //! The labels that a search keeps at a step.
-ghost use Rattle.std.specs.Prelude.{◌≡◌, ℕ, ◌+◌, ◌<◌, ◌≤◌, List, [], ◌∷◌, ◌++◌, length, IfOk, OnOk, OnErr};
-ghost use Rattle.driver_cli.specs.declared.tour.Tour.{Tour};
-ghost use Rattle.driver_cli.specs.Tour.{IsTour, word_length, eta_of};
+ghost use Rattle.std.specs.Prelude.{◌≡◌, ℕ, ◌+◌, ◌^◌, ◌<◌, ◌≤◌, List, [], ◌∷◌, ◌++◌, length, IfOk, OnOk, OnErr};
+ghost use Rattle.tour_model.specs.Tour.{IsTour};
+ghost use Rattle.tour_model.specs.Word.{word_length};
+ghost use Rattle.rule_core.specs.Replay.{AreRootStates};
 ghost use Rattle.driver_cli.specs.Problem.{is_better, later};
-ghost use Rattle.driver_cli.specs.Planning.{problem_of, minute_of};
-ghost use Rattle.driver_cli.specs.Searching.{AreStatesAt, AreLabelsAt, AreGrownAt, IsLabelAt, IsCoverSought, IsOffered, Offers, IsNextLayer, is_useful};
+ghost use Rattle.driver_cli.specs.Planning.{problem_of, minute_of, state_at};
+ghost use Rattle.driver_cli.specs.Searching.{AreStatesAt, AreLabelsAt, AreGrownAt, IsLabelAt, IsCoverSought, IsOffered, Offers, IsFirstLayer, IsNextLayer, is_useful};
 
 use crate::growth::{minute_at, successors};
 use crate::label::{Grown, Kept, Label};
-use crate::tour::{PARAMS, START, Tour};
-use duty_core::NoMemory;
-use rule_core::RuleBook;
+use duty_core::{Activity, NoMemory};
+use rule_core::{Root, RuleBook};
 use std::alloc::Global;
+use tour_model::Tour;
 
 /// What became of a label that was offered to a layer.
 #[derive(Clone, Copy, Debug, PartialEq, Eq)]
@@ -43,34 +44,43 @@ fn departs_later(a: Option<u32>, b: Option<u32>) -> bool
 
 /// Whether the first label may stand for the second at this step: it departs no earlier, has done
 /// as much, and its state covers the other's.
-pub fn better<B: RuleBook>(book: &B, a: &Label<B::State>, b: &Label<B::State>, step: u32) -> bool
-    requires a { B.is_state_at book.now a.now.state (minute_of step) }
-    requires b { B.is_state_at book.now b.now.state (minute_of step) }
+pub fn better<B: RuleBook>(
+    book: &B,
+    tour: &Tour,
+    a: &Label<B::State>,
+    b: &Label<B::State>,
+    step: u32,
+) -> bool
+    requires tour { IsTour tour.now }
+    requires a { B.is_state_at book.now a.now.state (minute_of tour.now step) }
+    requires b { B.is_state_at book.now b.now.state (minute_of tour.now step) }
     requires step { step < 1000000 }
-    ensures { (tour : Tour) → result ≡ is_better (problem_of tour (B.root_of book.now START) (B.advances_of book.now)
+    ensures { result ≡ is_better (problem_of tour.now (B.advances_of book.now)
         (B.covering book.now) (B.idles_of book.now)) step a.now b.now }
 {
     departs_later(a.depart, b.depart)
         && a.progress == b.progress
-        && book.covers(&a.state, &b.state, minute_at(step))
+        && book.covers(&a.state, &b.state, minute_at(tour, step))
 }
 
 /// The place of the first label of the layer that is better than this one.
 fn first_cover<B: RuleBook>(
     book: &B,
+    tour: &Tour,
     layer: &[Kept<B::State>],
     label: &Label<B::State>,
     step: u32,
 ) -> Option<u32>
-    requires layer { AreStatesAt (B.is_state_at book.now) step layer.now }
-    requires label { B.is_state_at book.now label.now.state (minute_of step) }
+    requires tour { IsTour tour.now }
+    requires layer { AreStatesAt (state_at tour.now (B.is_state_at book.now)) step layer.now }
+    requires label { B.is_state_at book.now label.now.state (minute_of tour.now step) }
     requires step { step < 1000000 }
     requires size { length layer.now ≤ 1000000 }
-    ensures { (tour : Tour) → IsCoverSought (problem_of tour (B.root_of book.now START) (B.advances_of book.now)
+    ensures { IsCoverSought (problem_of tour.now (B.advances_of book.now)
         (B.covering book.now) (B.idles_of book.now)) step layer.now label.now result }
 {
     for (index, kept) in layer.iter().enumerate() {
-        if better(book, &kept.label, label, step) {
+        if better(book, tour, &kept.label, label, step) {
             return Some(index as u32);
         }
     }
@@ -80,19 +90,21 @@ fn first_cover<B: RuleBook>(
 /// Offers a label to the layer of this step: it is added, unless one that is there is better.
 pub fn offer<B: RuleBook>(
     book: &B,
+    tour: &Tour,
     layer: &mut Vec<Kept<B::State>>,
     kept: Kept<B::State>,
     step: u32,
 ) -> Result<Offered, NoMemory>
-    requires layer { AreStatesAt (B.is_state_at book.now) step layer.old.items }
-    requires label { B.is_state_at book.now kept.label.state (minute_of step) }
+    requires tour { IsTour tour.now }
+    requires layer { AreStatesAt (state_at tour.now (B.is_state_at book.now)) step layer.old.items }
+    requires label { B.is_state_at book.now kept.label.state (minute_of tour.now step) }
     requires step { step < 1000000 }
     requires size { length layer.old.items ≤ 1000000 }
-    ensures offered { (tour : Tour) → IfOk result (IsOffered (problem_of tour (B.root_of book.now START) (B.advances_of book.now)
+    ensures offered { IfOk result (IsOffered (problem_of tour.now (B.advances_of book.now)
         (B.covering book.now) (B.idles_of book.now)) step layer.old.items kept layer.new.items) }
     ensures err { OnErr result (layer.new.items ≡ layer.old.items) }
 {
-    if let Some(index) = first_cover(book, layer.as_slice(), &kept.label, step) {
+    if let Some(index) = first_cover(book, tour, layer.as_slice(), &kept.label, step) {
         return Ok(Offered::Covered { index });
     }
     layer.push(kept)?;
@@ -125,11 +137,11 @@ fn offer_grown<B: RuleBook>(
     layer: &mut Vec<Kept<B::State>>,
 ) -> Result<(), NoMemory>
     requires tour { IsTour tour.now }
-    requires grown { IsLabelAt (B.is_state_at book.now) (word_length tour.now) step grown.label }
-    requires layer { AreStatesAt (B.is_state_at book.now) step layer.old.items }
+    requires grown { IsLabelAt (state_at tour.now (B.is_state_at book.now)) (word_length tour.now) step grown.label }
+    requires layer { AreStatesAt (state_at tour.now (B.is_state_at book.now)) step layer.old.items }
     requires step { step < 1000000 }
     requires room { limits.room ≤ 1000000 }
-    ensures ok { OnOk result (Offers (problem_of tour.now (B.root_of book.now START) (B.advances_of book.now) (B.covering book.now)
+    ensures ok { OnOk result (Offers (problem_of tour.now (B.advances_of book.now) (B.covering book.now)
         (B.idles_of book.now)) limits.best step limits.room parent (grown ∷ []) layer.old.items layer.new.items) }
 {
     let Grown { label, act, mark } = grown;
@@ -146,7 +158,7 @@ fn offer_grown<B: RuleBook>(
         act,
         mark,
     };
-    offer(book, layer, kept, step)?;
+    offer(book, tour, layer, kept, step)?;
     Ok(())
 }
 
@@ -161,17 +173,52 @@ fn offer_all<B: RuleBook>(
     layer: &mut Vec<Kept<B::State>>,
 ) -> Result<(), NoMemory>
     requires tour { IsTour tour.now }
-    requires list { AreGrownAt (B.is_state_at book.now) (word_length tour.now) step list.items }
-    requires layer { AreStatesAt (B.is_state_at book.now) step layer.old.items }
+    requires list { AreGrownAt (state_at tour.now (B.is_state_at book.now)) (word_length tour.now) step list.items }
+    requires layer { AreStatesAt (state_at tour.now (B.is_state_at book.now)) step layer.old.items }
     requires step { step < 1000000 }
     requires room { limits.room ≤ 1000000 }
-    ensures ok { OnOk result (Offers (problem_of tour.now (B.root_of book.now START) (B.advances_of book.now) (B.covering book.now)
+    ensures ok { OnOk result (Offers (problem_of tour.now (B.advances_of book.now) (B.covering book.now)
         (B.idles_of book.now)) limits.best step limits.room parent list.items layer.old.items layer.new.items) }
 {
     for grown in list {
         offer_grown(book, tour, limits, step, parent, grown, layer)?;
     }
     Ok(())
+}
+
+/// The first layer: the labels of the roots, in order, but for those than which an earlier one is
+/// better. It is empty where the tour cannot be finished, and holds `room` labels at most.
+pub fn first_layer<B: RuleBook>(
+    alloc: Global,
+    book: &B,
+    tour: &Tour,
+    roots: &[Root<B::State>],
+    room: usize,
+) -> Result<Vec<Kept<B::State>>, NoMemory>
+    requires tour { IsTour tour.now }
+    requires roots { AreRootStates (B.is_state_at book.now) tour.now.start roots.now }
+    requires few { length roots.now < 2 ^ 32 }
+    requires room { room ≤ 1000000 }
+    ensures first { IfOk result (λ layer. IsFirstLayer (problem_of tour.now (B.advances_of book.now) (B.covering book.now)
+        (B.idles_of book.now)) room roots.now layer.items) }
+    ensures labels { IfOk result (λ layer. AreLabelsAt (state_at tour.now (B.is_state_at book.now)) (word_length tour.now) 0 layer.items) }
+{
+    let limits = Limits { best: None, room };
+    let mut layer = Vec::new(alloc);
+    for (index, root) in roots.iter().enumerate() {
+        let label = Label {
+            depart: None,
+            progress: 0,
+            state: book.copy(&root.state)?,
+        };
+        let grown = Grown {
+            label,
+            act: Activity::Off,
+            mark: None,
+        };
+        offer_grown(book, tour, limits, 0, index as u32, grown, &mut layer)?;
+    }
+    Ok(layer)
 }
 
 /// The layer after the one of this step: its labels' successors, in order, but for those that are
@@ -186,14 +233,14 @@ pub fn next_layer<B: RuleBook>(
     layer: &[Kept<B::State>],
 ) -> Result<Vec<Kept<B::State>>, NoMemory>
     requires tour { IsTour tour.now }
-    requires params { B.params_of book.now ≡ PARAMS }
-    requires layer { AreLabelsAt (B.is_state_at book.now) (word_length tour.now) step layer.now }
+    requires params { B.params_of book.now ≡ tour.now.params }
+    requires layer { AreLabelsAt (state_at tour.now (B.is_state_at book.now)) (word_length tour.now) step layer.now }
     requires step { step + 1 < 1000000 }
     requires size { length layer.now ≤ 1000000 }
     requires room { limits.room ≤ 1000000 }
-    ensures next { IfOk result (λ next. IsNextLayer (problem_of tour.now (B.root_of book.now START) (B.advances_of book.now)
+    ensures next { IfOk result (λ next. IsNextLayer (problem_of tour.now (B.advances_of book.now)
         (B.covering book.now) (B.idles_of book.now)) limits.best step limits.room layer.now next.items) }
-    ensures labels { IfOk result (λ next. AreLabelsAt (B.is_state_at book.now) (word_length tour.now) (step + 1) next.items) }
+    ensures labels { IfOk result (λ next. AreLabelsAt (state_at tour.now (B.is_state_at book.now)) (word_length tour.now) (step + 1) next.items) }
 {
     let mut next = Vec::new(alloc);
     for (index, kept) in layer.iter().enumerate() {

@@ -5,33 +5,9 @@ ghost use Rattle.driver_cli.specs.Searching.{HaveParents};
 
 use crate::by_layers::Place;
 use crate::layer_list::Layers;
-use duty_core::{Activity, NoMemory};
+use duty_core::NoMemory;
 use std::alloc::Global;
-use std::marker::Model;
-
-/// Activities, one for each step from the start. Contracts see the list of them.
-#[derive(Drop)]
-pub struct Steps {
-    items: Vec<Activity>,
-}
-
-impl Model for Steps {
-    ghost use Rattle.std.specs.Prelude.{List};
-    ghost use Rattle.duty_core.specs.declared.activity.Activity.{Activity};
-
-    ghost Value = { List Activity };
-
-    ghost view = { λ s. s.items.items };
-}
-
-impl Steps {
-    /// The activities, the first step's first.
-    pub fn items(&self) -> &[Activity]
-        ensures { result.now ≡ self.now }
-    {
-        self.items.as_slice()
-    }
-}
+use tour_model::Steps;
 
 /// The activities along the parents, to the label at this place.
 pub fn rebuild<S: Drop>(alloc: Global, layers: &Layers<S>, place: Place) -> Result<Steps, NoMemory>
@@ -49,7 +25,7 @@ pub fn rebuild<S: Drop>(alloc: Global, layers: &Layers<S>, place: Place) -> Resu
         layer -= 1;
     }
     items.reverse();
-    Ok(Steps { items })
+    Ok(Steps::from_vec(items))
 }
 
 #[cfg(test)]

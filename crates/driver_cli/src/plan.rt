@@ -1,16 +1,22 @@
-//! Planning of a tour.
-ghost use Rattle.std.specs.Prelude.{◌≡◌, IfOk};
-ghost use Rattle.driver_cli.specs.Tour.{IsTour};
-ghost use Rattle.driver_cli.specs.Planning.{problem_of};
+//! Planning of a tour behind a log.
+ghost use Rattle.std.specs.Prelude.{◌≡◌, ◌*◌, ◌≤◌, true, length, IfOk};
+ghost use Rattle.duty_core.specs.Params.{unit_minutes};
+ghost use Rattle.rule_core.specs.Replay.{AreRootsOf};
+ghost use Rattle.tour_model.specs.declared.limits.TheConstants.{LONGEST_LOG};
+ghost use Rattle.tour_model.specs.Schedule.{log_start};
+ghost use Rattle.tour_model.specs.Tour.{IsTour};
+ghost use Rattle.us_rules.specs.Machine.{root_state, nexts_after, covers_state};
+ghost use Rattle.driver_cli.specs.Planning.{problem_of, IsLogState};
 ghost use Rattle.driver_cli.specs.Planned.{IsPlannedBy, IsPlanned};
 
 use crate::by_layers::{Searched, search};
-use crate::path::{Steps, rebuild};
-use crate::tour::{PARAMS, START, Tour};
+use crate::path::rebuild;
 use duty_core::NoMemory;
-use rule_core::RuleBook;
+use rule_core::{Roots, RuleBook};
 use std::alloc::Global;
-use us_rules::UsBook;
+use timeline::Timeline;
+use tour_model::{Steps, Tour};
+use us_rules::{UsBook, UsState};
 
 /// The most labels that a search may keep.
 pub const BUDGET: u32 = 200_000;
@@ -20,20 +26,30 @@ pub const BUDGET: u32 = 200_000;
 pub enum Planned {
     /// A shortest schedule, one activity for each step from the start.
     Shortest(Steps),
-    /// No schedule serves the tour lawfully.
+    /// No schedule serves the tour lawfully behind the log.
     Infeasible,
     /// The search kept as many labels as it may.
     Spent,
 }
 
-/// Plans the tour by a rule book.
-fn plan_by<B: RuleBook>(alloc: Global, book: &B, tour: &Tour) -> Result<Planned, NoMemory>
+/// Plans the tour by a rule book, behind the log that left these roots.
+fn plan_by<B: RuleBook>(
+    alloc: Global,
+    book: &B,
+    tour: &Tour,
+    log: &Timeline,
+    roots: &Roots<B::State>,
+) -> Result<Planned, NoMemory>
     requires tour { IsTour tour.now }
-    requires params { B.params_of book.now ≡ PARAMS }
-    ensures planned { IfOk result (IsPlannedBy tour.now (problem_of tour.now (B.root_of book.now START)
-        (B.advances_of book.now) (B.covering book.now) (B.idles_of book.now))) }
+    requires params { B.params_of book.now ≡ tour.now.params }
+    requires short { unit_minutes tour.now.params * length log.now ≤ LONGEST_LOG }
+    requires roots { AreRootsOf (unit_minutes tour.now.params) (B.nexts_of book.now) (B.covering book.now)
+        (B.root_of book.now (log_start tour.now log.now)) (log_start tour.now log.now) log.now roots.now }
+    ensures planned { IfOk result (IsPlannedBy tour.now log.now (problem_of tour.now (B.advances_of book.now) (B.covering book.now) (B.idles_of book.now))
+        (IsLogState tour.now log.now (B.root_of book.now (log_start tour.now log.now)) (B.nexts_of book.now))) }
 {
-    match search(alloc, book, tour, BUDGET)? {
+    let _ = log;
+    match search(alloc, book, tour, roots.items(), BUDGET)? {
         Searched::Found { layers, place } => {
             Ok(Planned::Shortest(rebuild(alloc, &layers, place)?))
         }
@@ -42,12 +58,21 @@ fn plan_by<B: RuleBook>(alloc: Global, book: &B, tour: &Tour) -> Result<Planned,
     }
 }
 
-/// A shortest schedule of the tour under the rules of the United States, or that it has none, or
-/// that the search's budget is spent.
-pub fn plan_tour(alloc: Global, tour: &Tour) -> Result<Planned, NoMemory>
-    requires { IsTour tour.now }
-    ensures { IfOk result (IsPlanned tour.now) }
+/// A shortest schedule of the tour behind the log, under the rules of the United States, or that it
+/// has none, or that the search's budget is spent. The roots are the states that the log leads to.
+pub fn plan_tour(
+    alloc: Global,
+    book: &UsBook,
+    tour: &Tour,
+    log: &Timeline,
+    roots: &Roots<UsState>,
+) -> Result<Planned, NoMemory>
+    requires tour { IsTour tour.now }
+    requires book { ⟦<UsBook as RuleBook>⟧.params_of book.now ≡ tour.now.params }
+    requires short { unit_minutes tour.now.params * length log.now ≤ LONGEST_LOG }
+    requires roots { AreRootsOf (unit_minutes tour.now.params) (λ s at x. nexts_after s x) (λ a b at. covers_state a b) root_state
+        (log_start tour.now log.now) log.now roots.now }
+    ensures { IfOk result (IsPlanned tour.now log.now) }
 {
-    let book = UsBook::new(false, 8, 0);
-    plan_by(alloc, &book, tour)
+    plan_by(alloc, book, tour, log, roots)
 }

@@ -110,7 +110,7 @@ history_short tour t log xs l s =
     omega arith
 
 -- Before a whole unit, so many units sooner, a whole unit begins.
-begins_sooner : (params : Params) (at n : ℕ) → BeginsUnit params at → BeginsUnit params (at - unit_minutes params * n)
+pub begins_sooner : (params : Params) (at n : ℕ) → BeginsUnit params at → BeginsUnit params (at - unit_minutes params * n)
 begins_sooner (UsProperty berth days day_start) at n b = let w = b.whole in record { units = b.units - n; whole = omega arith }
 begins_sooner (Canada berth way cycle day_start) at n b = let w = b.whole in record { units = b.units - n; whole = omega arith }
 begins_sooner Hvnl at n b = let w = b.whole in record { units = b.units - n; whole = omega arith }
@@ -129,4 +129,15 @@ history_timed tour t log xs l s =
       begins = begins_sooner tour.params tour.start (length log) t.whole_start;
       long = long;
       ends = ends_soon tour.params tour.start (log_start tour log) (length (history_of tour log xs)) t.not_late (omega arith) long;
+    }
+
+-- The rules may be asked of the log.
+pub log_timed : (tour : Tour) → IsTour tour → (log : List Activity) → unit_minutes tour.params * length log ≤ LONGEST_LOG → IsTimed tour.params (log_start tour log) log
+log_timed tour t log l =
+    let m = units_minutes tour.params (length log) in
+    let long : length log ≤ LONGEST_HISTORY = omega arith in
+    record {
+      begins = begins_sooner tour.params tour.start (length log) t.whole_start;
+      long = long;
+      ends = ends_soon tour.params tour.start (log_start tour log) (length log) t.not_late (omega arith) long;
     }

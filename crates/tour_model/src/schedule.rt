@@ -30,6 +30,13 @@ impl Steps {
         }
     }
 
+    /// These steps, in their order.
+    pub fn from_vec(steps: Vec<Activity>) -> Self
+        ensures { result ≡ steps.items }
+    {
+        Steps { steps }
+    }
+
     /// One more step at the end. Where there is no memory for it, the steps stay as they were.
     pub fn push(&mut self, item: Activity) -> Result<(), NoMemory>
         ensures ok { OnOk result (self.new ≡ self.old ++ item ∷ []) }

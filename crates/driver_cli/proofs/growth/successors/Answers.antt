@@ -1,7 +1,6 @@
 use Rattle.std.proofs.Common.{◌≡◌, [], ◌∷◌, ◌++◌, append-nil, sym, ap, ◌∙◌}
 use Rattle.std.specs.Prelude.{Some, None}
 use Rattle.std.specs.Option.{option_to_list}
-use Rattle.driver_cli.specs.declared.tour.TheConstants.{START}
 use Rattle.rule_core.specs.Reach.{idle_list}
 use Rattle.driver_cli.specs.Problem.{grown_by}
 use Rattle.driver_cli.specs.Planning.{problem_of}
@@ -12,7 +11,7 @@ use Rattle.driver_cli.proofs.growth.successors.Goals.{in-Some+in_ok-push_by-4, i
 pub returns : goal.returns
 returns g c =
     let book = c.args.book.now in
-    let problem = problem_of c.args.tour.now (g.B.RuleBook.root_of book START) (g.B.RuleBook.advances_of book) (g.B.RuleBook.covering book) (g.B.RuleBook.idles_of book) in
+    let problem = problem_of c.args.tour.now (g.B.RuleBook.advances_of book) (g.B.RuleBook.covering book) (g.B.RuleBook.idles_of book) in
     let first = c.idles-first.result.first in
     let tries = ap idle_list (sym c.idles-first.ensures) in
     elim c.match-second.branch [

@@ -1,6 +1,4 @@
 use Rattle.std.proofs.Common.{◌≡◌, true, false, sym, ◌∙◌}
-use Rattle.driver_cli.specs.declared.tour.TheConstants.{START}
-use Rattle.driver_cli.specs.declared.tour.Tour.{Tour}
 use Rattle.driver_cli.specs.Problem.{Problem}
 use Rattle.driver_cli.specs.Planning.{problem_of}
 use Rattle.rule_core.specs.OneOf.{one_of_item}
@@ -11,16 +9,16 @@ pub better-requires-clause-a : goal.better-requires-clause-a
 better-requires-clause-a g c = c.requires.layer c.index-layer-index.result (one_of_item c.args.layer.now c.loop-index.index c.index-layer-index.result c.loop-index-test.true c.index-layer-index.is)
 
 pub returns-then-better : goal.returns-then-better
-returns-then-better g c tour =
-    let problem = problem_of tour (g.B.RuleBook.root_of c.args.book.now START) (g.B.RuleBook.advances_of c.args.book.now) (g.B.RuleBook.covering c.args.book.now) (g.B.RuleBook.idles_of c.args.book.now) in
-    first_cover_at problem c.args.step c.args.layer.now c.args.label.now c.loop-index.index c.index-layer-index.result c.loop-index-test.true c.index-layer-index.is (c.loop-index.invariant tour) (sym (c.better.ensures tour) ∙ c.if-better.true)
+returns-then-better g c =
+    let problem = problem_of c.args.tour.now (g.B.RuleBook.advances_of c.args.book.now) (g.B.RuleBook.covering c.args.book.now) (g.B.RuleBook.idles_of c.args.book.now) in
+    first_cover_at problem c.args.step c.args.layer.now c.args.label.now c.loop-index.index c.index-layer-index.result c.loop-index-test.true c.index-layer-index.is c.loop-index.invariant (sym c.better.ensures ∙ c.if-better.true)
 
 pub loop-index-preserved : goal.loop-index-preserved
-loop-index-preserved g c tour =
-    let problem = problem_of tour (g.B.RuleBook.root_of c.args.book.now START) (g.B.RuleBook.advances_of c.args.book.now) (g.B.RuleBook.covering c.args.book.now) (g.B.RuleBook.idles_of c.args.book.now) in
-    none_more problem c.args.step c.args.layer.now c.args.label.now c.loop-index.index c.index-layer-index.result c.loop-index-test.true c.index-layer-index.is (c.loop-index.invariant tour) (sym (c.better.ensures tour) ∙ c.if-better.false)
+loop-index-preserved g c =
+    let problem = problem_of c.args.tour.now (g.B.RuleBook.advances_of c.args.book.now) (g.B.RuleBook.covering c.args.book.now) (g.B.RuleBook.idles_of c.args.book.now) in
+    none_more problem c.args.step c.args.layer.now c.args.label.now c.loop-index.index c.index-layer-index.result c.loop-index-test.true c.index-layer-index.is c.loop-index.invariant (sym c.better.ensures ∙ c.if-better.false)
 
 pub returns : goal.returns
-returns g c tour =
-    let problem = problem_of tour (g.B.RuleBook.root_of c.args.book.now START) (g.B.RuleBook.advances_of c.args.book.now) (g.B.RuleBook.covering c.args.book.now) (g.B.RuleBook.idles_of c.args.book.now) in
-    none_all problem c.args.step c.args.layer.now c.args.label.now c.loop-index.index c.loop-index-test.false (c.loop-index.invariant tour)
+returns g c =
+    let problem = problem_of c.args.tour.now (g.B.RuleBook.advances_of c.args.book.now) (g.B.RuleBook.covering c.args.book.now) (g.B.RuleBook.idles_of c.args.book.now) in
+    none_all problem c.args.step c.args.layer.now c.args.label.now c.loop-index.index c.loop-index-test.false c.loop-index.invariant

@@ -35,5 +35,5 @@ loop-layer-preserved g c =
 
 pub returns : goal.returns
 returns g c = record {
-  path = c.reverse.ensures.items ∙ path_whole c.args.layers.now c.loop-layer.layer c.loop-layer.index (path_of c.args.layers.now c.args.place.layer c.args.place.index) c.loop-layer.items.items c.loop-layer-test.false c.loop-layer.invariant.path;
+  path = c.from_vec.ensures ∙ (c.reverse.ensures.items ∙ path_whole c.args.layers.now c.loop-layer.layer c.loop-layer.index (path_of c.args.layers.now c.args.place.layer c.args.place.index) c.loop-layer.items.items c.loop-layer-test.false c.loop-layer.invariant.path);
 }

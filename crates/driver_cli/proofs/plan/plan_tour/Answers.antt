@@ -1,12 +1,14 @@
-use Rattle.std.proofs.Common.{◌≡◌, false, subst}
+use Rattle.std.proofs.Common.{◌≡◌, Bool, subst, ap}
 use Rattle.std.specs.Prelude.{IfOk}
-use Rattle.us_rules.specs.Machine.{root_state, advance_from, covers_state, us_idles}
+use Rattle.duty_core.specs.Params.{has_berth}
+use Rattle.us_rules.specs.Machine.{advance_from, covers_state, us_idles}
 use Rattle.driver_cli.specs.Planning.{problem_of}
-use Rattle.driver_cli.specs.Planned.{IsPlannedBy}
+use Rattle.driver_cli.specs.Planned.{IsPlannedBy, IsUsLogState}
 use Rattle.driver_cli.proofs.plan.plan_tour.Goals as goal
 
 pub returns : goal.returns
 returns c =
     let tour = c.args.tour.now in
-    let e : c.new-book.result.berth ≡ false = cc (c.new-book.ensures) in
-    subst (λ berth. IfOk c.plan_by.result (IsPlannedBy tour (problem_of tour root_state (λ s at x n. advance_from s x n) (λ a b at. covers_state a b) (λ s. us_idles berth)))) e c.plan_by.ensures.planned
+    let log = c.args.log.now in
+    let e : c.args.book.now.berth ≡ has_berth tour.params = ap has_berth c.requires.book in
+    subst (λ berth. IfOk c.plan_by.result (IsPlannedBy tour log (problem_of tour (λ s at x n. advance_from s x n) (λ a b at. covers_state a b) (λ s. us_idles berth)) (IsUsLogState tour log))) e c.plan_by.ensures.planned
