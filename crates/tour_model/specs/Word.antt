@@ -23,6 +23,7 @@ word_from number (s ∷ stops) = replicate s.drive (piece.Drive number) ++ (serv
 abbrev pub word_of : Tour → List Piece
 word_of tour = word_from 0 tour.stops
 
+-- the number of pieces of the word
 abbrev pub word_length : Tour → ℕ
 word_length tour = length (word_of tour)
 

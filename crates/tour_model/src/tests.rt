@@ -3,10 +3,11 @@ ghost use Rattle.std.specs.Prelude.{◌≡◌, ℕ, ◌+◌, ◌*◌, ◌<◌, �
 ghost use Rattle.tour_model.specs.Tour.{IsWindow, IsStop, IsTour};
 
 use crate::piece::Piece;
+use crate::schedule::{Schedule, Steps};
 use crate::stop::{Name, Stop, Stops};
 use crate::tour::Tour;
 use crate::window::{Window, Windows};
-use duty_core::{Activity, NoMemory, Params};
+use duty_core::{Activity, Mark, Marks, NoMemory, Params};
 use std::alloc::Global;
 use std::test::Fail;
 
@@ -154,5 +155,24 @@ fn no_windows_no_end(rt: HostRuntime) -> Result<(), Fail> {
     assert_eq!(rt; tour.word_len(), 2);
     assert_eq!(rt; tour.eta(0, 0), None);
     assert_eq!(rt; tour.eta(0, 2), Some(0));
+    Ok(())
+}
+
+#[test]
+fn a_schedule_keeps_its_steps_and_marks(rt: HostRuntime) -> Result<(), Fail> {
+    let mut steps = Steps::new(rt.alloc());
+    steps.push(Activity::Drive)?;
+    steps.push(Activity::Serve)?;
+    let mut marks = Marks::new(rt.alloc());
+    marks.push(Mark::DeferDay { day: 3 })?;
+    let schedule = Schedule { steps, marks };
+    assert_eq!(rt;
+        schedule.steps.items(),
+        [Activity::Drive, Activity::Serve].as_slice()
+    );
+    assert_eq!(rt;
+        schedule.marks.items(),
+        [Mark::DeferDay { day: 3 }].as_slice()
+    );
     Ok(())
 }
