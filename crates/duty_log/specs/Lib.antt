@@ -1,0 +1,3 @@
+pub mod Words
+pub mod Log
+pub mod Records

@@ -1,0 +1,1 @@
+use crate::{LOG_LIMIT, LogFault, read_log};
