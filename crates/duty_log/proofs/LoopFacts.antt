@@ -1,8 +1,8 @@
 -- The loop over the rows of a log.
-use Rattle.std.proofs.Common.{◌≡◌, ◌≢◌, ℕ, ◌+◌, ◌<◌, ◌≤◌, Bool, true, false, List, [], ◌∷◌, length, Option, None, Some, Result, Ok, Err, refl, sym, inl, inr}
+use Rattle.std.proofs.Common.{◌≡◌, ◌≢◌, ℕ, ◌+◌, ◌<◌, ◌≤◌, true, false, List, [], length, None, Some, Result, Ok, Err, refl, inl, inr}
 use Rattle.std.specs.Prelude.{IfOk, IfErr}
 use Rattle.std.specs.Borrow.{Bor}
-use Rattle.csv.specs.Reading.{ReadRecord, Ready, default_config, records, source_of, strip_bom}
+use Rattle.csv.specs.Reading.{default_config, records, source_of, strip_bom}
 use Rattle.csv.specs.declared.parser.State.TheVariants as st
 use Rattle.csv.specs.declared.reader.Reader.{Reader}
 use Rattle.csv.specs.declared.reader.Trim.TheVariants as trim
@@ -13,7 +13,7 @@ use Rattle.duty_log.specs.declared.fault.LogFault.TheVariants.{BadHeader, EndsEl
 use Rattle.duty_log.specs.declared.read.TheConstants.{LOG_LIMIT}
 use Rattle.duty_log.specs.declared.row.Row.{Row}
 use Rattle.duty_log.specs.Words.{header}
-use Rattle.duty_log.specs.Log.{at_start, behind, ends_at, Place, ReadsLog, ReadsRecords, ReadsRow, ReadsRows}
+use Rattle.duty_log.specs.Log.{at_start, behind, ends_at, Place, ReadsLog, ReadsRow, ReadsRows}
 use Rattle.duty_log.specs.Records.{IsBetween, records_left}
 use Rattle.duty_log.proofs.RowFacts.{IsNext, row_next}
 use Rattle.duty_log.proofs.RecordFacts.{Moves}

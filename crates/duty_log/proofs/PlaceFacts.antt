@@ -1,5 +1,5 @@
 -- What is kept along the rows of a log, and how the reading of the rows that are left gives that of all.
-use Rattle.std.proofs.Common.{◌≡◌, ℕ, ◌+◌, ◌-◌, ◌*◌, ◌/◌, ◌%◌, ◌<◌, ◌≤◌, true, List, [], ◌∷◌, ◌++◌, length, Option, Some, None, Result, Ok, Err, refl, sym, subst, arith, length-append}
+use Rattle.std.proofs.Common.{◌≡◌, ℕ, ◌+◌, ◌-◌, ◌*◌, ◌/◌, ◌%◌, ◌<◌, ◌≤◌, true, List, [], ◌∷◌, ◌++◌, length, Option, Some, None, Result, Ok, Err, refl, arith, length-append}
 use Rattle.std.specs.Prelude.{replicate}
 use Rattle.std.proofs.lemmas.Bool.Decides.{nat_tests}
 use Rattle.std.proofs.lemmas.List.{length-replicate}
@@ -12,7 +12,7 @@ use Rattle.duty_log.specs.declared.fault.LogFault.{LogFault}
 use Rattle.duty_log.specs.declared.row.TheConstants.{LONGEST_LOG}
 use Rattle.duty_log.specs.declared.row.Row.{Row}
 use Rattle.duty_log.specs.declared.row.Span.{Span}
-use Rattle.duty_log.specs.Log.{at_start, behind, first_of, follows, Place, ReadsRow, ReadsRows}
+use Rattle.duty_log.specs.Log.{at_start, behind, ends_at, first_of, EndsAt, Place, ReadsRow, ReadsRows}
 use Rattle.duty_log.proofs.RowFacts.{IsNext}
 
 -- What rows that span these minutes keep: each has a minute, they are not too long, and their units fill them.
@@ -82,6 +82,18 @@ stays_sound params rows (Some span) units row sound h =
 pub few_rows : (params : Params) (rows : ℕ) (before : Option Span) (units : List Activity) → IsSound params rows before units → rows ≤ LONGEST_LOG
 few_rows params rows None units sound = omega arith
 few_rows params rows (Some span) units sound = let a = sound.counted in let b = sound.short in omega arith
+
+none_back : (params : Params) (start : ℕ) (units : List Activity) → units ≡ [] → EndsAt params start units
+none_back params start units none = rw none record { back = omega arith; short = omega arith }
+
+-- what was read up to the minute ends there
+pub sound_ends : (params : Params) (rows start : ℕ) (before : Option Span) (units : List Activity) → IsSound params rows before units → ends_at before start ≡ true → EndsAt params start units
+sound_ends params rows start None units sound there = none_back params start units sound.1
+sound_ends params rows start (Some span) units sound there =
+    let at : span.to ≡ start = grind (arith, nat_tests, there) in
+    let short = sound.short in
+    let filled = sound.filled in
+    record { back = omega arith; short = omega arith }
 
 -- ---- the rows that are left
 

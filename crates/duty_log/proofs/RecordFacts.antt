@@ -1,14 +1,13 @@
 -- How the records that a reader has left follow its reads.
-use Rattle.std.proofs.Common.{◌≡◌, ℕ, zero, suc, ◌+◌, ◌-◌, ◌<◌, ◌≤◌, Bool, true, false, cond, List, [], ◌∷◌, ◌++◌, length, Option, Some, None, refl, sym, ap, ◌∙◌, arith, add-one}
+use Rattle.std.proofs.Common.{◌≡◌, ℕ, zero, suc, ◌+◌, ◌-◌, ◌<◌, ◌≤◌, Bool, true, false, cond, List, [], ◌∷◌, ◌++◌, length, Option, Some, None, refl, ap, ◌∙◌, arith, add-one}
 use Rattle.std.specs.Prelude.{◌==◌, ◌||◌, IsSome, unwrap_or}
 use Rattle.std.specs.Borrow.{Bor}
-use Rattle.csv.specs.Machine.{Read, Runs, ends_at_end, ends_with, after_end, field_after, fields_after, in_field, is_end, next_record, start_field, start_record, step}
-use Rattle.csv.specs.Reading.{NextIs, ReadRecord, Ready, ReadsNext, default_config, pending_of, records, records_from, records_next, source_of, strip_bom}
+use Rattle.csv.specs.Machine.{Read, ends_at_end, field_after, fields_after, in_field, is_end, next_record, start_field, start_record, step}
+use Rattle.csv.specs.Reading.{NextIs, ReadRecord, Ready, ReadsNext, default_config, pending_of, records_from, records_next, source_of}
 use Rattle.csv.specs.declared.parser.Action.{Action}
 use Rattle.csv.specs.declared.parser.Action.TheVariants as act
 use Rattle.csv.specs.declared.parser.State.{State}
 use Rattle.csv.specs.declared.parser.State.TheVariants as st
-use Rattle.csv.specs.declared.parser.Terminator.TheVariants as term
 use Rattle.csv.specs.declared.reader.Reader.{Reader}
 use Rattle.csv.proofs.ReadFacts.{rows-end}
 use Rattle.duty_log.specs.Records.{IsBetween, bytes_left, records_left}

@@ -1,6 +1,6 @@
 -- What a row reads as, from what its fields read as, and what is true of a row that is read.
-use Rattle.std.proofs.Common.{◌≡◌, ℕ, ◌+◌, ◌-◌, ◌<◌, ◌≤◌, ◌%◌, Bool, true, false, cond, List, [], ◌∷◌, Option, Some, None, Result, Ok, Err, refl, sym, subst, arith}
-use Rattle.std.specs.Prelude.{IfOk, IfErr, nat_le, nat_lt, not, ◌&&◌, ◌==◌}
+use Rattle.std.proofs.Common.{◌≡◌, ℕ, ◌-◌, ◌<◌, ◌≤◌, ◌%◌, Bool, true, false, cond, List, [], ◌∷◌, Option, Some, None, Result, Ok, Err, refl, sym, subst, arith}
+use Rattle.std.specs.Prelude.{IfOk, IfErr, nat_le, nat_lt, not, ◌&&◌}
 use Rattle.std.specs.Result.{result_ok}
 use Rattle.std.proofs.lemmas.Bool.Decides.{nat_tests}
 use Rattle.civil_minutes.specs.Time.{IsTimeText, IsBadFrom}
@@ -9,12 +9,12 @@ use Rattle.duty_core.specs.declared.activity.Activity.{Activity}
 use Rattle.duty_core.specs.declared.params.Params.{Params}
 use Rattle.duty_core.specs.Params.{unit_minutes}
 use Rattle.duty_log.specs.declared.fault.LogFault.{LogFault}
-use Rattle.duty_log.specs.declared.fault.LogFault.TheVariants.{NotCsv, BadTime as BadTimeAt, BadStatus, Empty, Gap, NotOnUnit, TooLong}
+use Rattle.duty_log.specs.declared.fault.LogFault.TheVariants.{Empty, Gap, NotOnUnit, TooLong}
 use Rattle.duty_log.specs.declared.row.TheConstants.{LONGEST_LOG}
 use Rattle.duty_log.specs.declared.row.Row.{Row}
 use Rattle.duty_log.specs.declared.row.Span.{Span}
 use Rattle.duty_log.specs.Words.{activity_of}
-use Rattle.duty_log.specs.Log.{checked, first_of, follows, is_on_unit, row_at, with_act, IsTimeOf, ReadsFields, ReadsRow}
+use Rattle.duty_log.specs.Log.{checked, first_of, follows, is_on_unit, row_at, with_act, IsTimeOf, ReadsRow}
 
 -- what was read of a text is the minute that it stands for, if it is a time
 time_read : (text : List ℕ) (r : Result ℕ BadTime) → IfOk r (IsTimeText text) → IfErr r (λ bad. IsBadFrom text bad.place) → IsTimeOf text (result_ok r)

@@ -1,12 +1,12 @@
 -- What a log says: its records are read in order, and the first fault ends the reading.
-use Rattle.std.specs.Prelude.{◌≡◌, ◌≢◌, ◌⊎◌, ◌==◌, ◌&&◌, ◌+◌, ◌-◌, ◌/◌, ◌%◌, ◌<◌, ◌≤◌, nat_le, nat_lt, not, if◌then◌else◌, Bool, true, ℕ, List, [], ◌∷◌, ◌++◌, length, replicate, Option, None, Some, Result, Ok, Err, MatchResult}
+use Rattle.std.specs.Prelude.{◌≡◌, ◌≢◌, ◌⊎◌, ◌==◌, ◌&&◌, ◌+◌, ◌-◌, ◌*◌, ◌/◌, ◌%◌, ◌<◌, ◌≤◌, nat_le, nat_lt, not, if◌then◌else◌, Bool, true, ℕ, List, [], ◌∷◌, ◌++◌, length, replicate, Option, None, Some, Result, Ok, Err, MatchResult}
 use Rattle.csv.specs.Reading.{default_config, records, strip_bom}
 use Rattle.civil_minutes.specs.Time.{IsTimeText}
 use Rattle.duty_core.specs.declared.activity.Activity.{Activity}
 use Rattle.duty_core.specs.declared.params.Params.{Params}
 use Rattle.duty_core.specs.Params.{unit_minutes}
 use Rattle.duty_log.specs.declared.fault.LogFault.{LogFault}
-use Rattle.duty_log.specs.declared.fault.LogFault.TheVariants.{TooBig, BadHeader, NotCsv, BadTime, BadStatus, Empty, Gap, NotOnUnit, TooLong, EndsElsewhere}
+use Rattle.duty_log.specs.declared.fault.LogFault.TheVariants.{TooBig, BadHeader, NotCsv, BadTime, BadStatus, Empty, Gap, NotOnUnit, TooLong, EndsElsewhere, Memory}
 use Rattle.duty_log.specs.declared.read.TheConstants.{LOG_LIMIT}
 use Rattle.duty_log.specs.declared.row.TheConstants.{LONGEST_LOG}
 use Rattle.duty_log.specs.declared.row.Row.{Row}
@@ -121,3 +121,12 @@ abbrev pub ReadsLog : List ℕ → Params → ℕ → Result (List Activity) Log
 ReadsLog bytes params start answer =
     ((LOG_LIMIT < length bytes) × (answer ≡ Err TooBig))
     ⊎ ((length bytes ≤ LOG_LIMIT) × ReadsRecords params start (records default_config (strip_bom bytes)) answer)
+
+-- the answer of a read, where memory did not run out
+abbrev pub Answers : Result (List Activity) LogFault → Result (List Activity) LogFault → Type 0
+Answers result answer = MatchResult result (λ units. answer ≡ Ok units) (λ fault. fault ≢ Memory → answer ≡ Err fault)
+
+-- The units end at the minute, and began no more than the longest log before it.
+pub record EndsAt (params : Params) (start : ℕ) (units : List Activity) : Type 0 where
+  pub back : unit_minutes params * length units ≤ start
+  pub short : unit_minutes params * length units ≤ LONGEST_LOG

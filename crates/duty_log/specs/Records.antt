@@ -1,5 +1,5 @@
 -- The records that a reader has left.
-use Rattle.std.specs.Prelude.{◌≡◌, ◌+◌, Bool, true, false, ℕ, List, [], length, Option, None, Some, IsSome, unwrap_or}
+use Rattle.std.specs.Prelude.{◌≡◌, ◌+◌, false, ℕ, List, [], length, Some, IsSome, unwrap_or}
 use Rattle.std.specs.Borrow.{Bor}
 use Rattle.csv.specs.Machine.{ends_at_end}
 use Rattle.csv.specs.Reading.{Ready, default_config, records_from, source_of}

@@ -3,7 +3,7 @@ ghost use Rattle.std.specs.Prelude.{◌≡◌, ◌≢◌, ◌+◌, ◌≤◌, �
 ghost use Rattle.duty_core.specs.declared.activity.Activity.{Activity};
 ghost use Rattle.duty_core.specs.declared.limits.TheConstants.{LONGEST_HISTORY};
 ghost use Rattle.duty_log.specs.declared.fault.LogFault.{LogFault};
-ghost use Rattle.duty_log.specs.Log.{at_start, ReadsLog, ReadsRows};
+ghost use Rattle.duty_log.specs.Log.{at_start, Answers, EndsAt, ReadsLog, ReadsRows};
 ghost use Rattle.duty_log.specs.Records.{IsBetween, records_left};
 
 use crate::fault::LogFault;
@@ -25,8 +25,8 @@ pub const LOG_LIMIT: usize = 4_000_000;
 /// bytes into its field. Bytes that are no UTF-8 are bytes of a field, and so of no time and no
 /// status. The first record is the header `from,to,status`, and the others are rows, from 1.
 ///
-/// The faults are those of `LogFault`, and the answer is the first one. `Memory` comes where there
-/// was none, whatever the bytes are.
+/// The faults are those of `LogFault`, and the answer is the first one. Only `Memory` may come for
+/// any bytes: where there was none, for the records or for the runs of the history.
 pub fn read_log(
     alloc: Global,
     bytes: &[u8],
@@ -35,6 +35,8 @@ pub fn read_log(
 ) -> Result<Timeline, LogFault>
     ensures log { IfOk result (λ units. ReadsLog bytes.now params start (Ok units)) }
     ensures fault { IfErr result (λ fault. fault ≢ LogFault.Memory → ReadsLog bytes.now params start (Err fault)) }
+    ensures only { (answer : Result (List Activity) LogFault) → ReadsLog bytes.now params start answer → Answers result answer }
+    ensures ends { IfOk result (EndsAt params start) }
 {
     if bytes.len() > LOG_LIMIT {
         return Err(LogFault::TooBig);
@@ -61,6 +63,7 @@ fn read_rows(
     requires { IsBetween reader }
     ensures log { IfOk result (λ units. ReadsRows params start at_start (records_left reader.entry) (Ok units)) }
     ensures fault { IfErr result (λ fault. fault ≢ LogFault.Memory → ReadsRows params start at_start (records_left reader.entry) (Err fault)) }
+    ensures ends { IfOk result (EndsAt params start) }
 {
     let mut timeline = Timeline::new(alloc);
     let mut rows = 0;

@@ -1,1 +1,162 @@
-use crate::{LOG_LIMIT, LogFault, read_log};
+use crate::{LogFault, read_log};
+use duty_core::{Activity, Minute, Params, RestWay};
+use std::test::Fail;
+use timeline::Run;
+
+/// 2026-03-02T06:00.
+const START: Minute = 13_762_440;
+
+const US: Params = Params::UsProperty {
+    berth: true,
+    days: 8,
+    day_start: 0,
+};
+
+const CANADA: Params = Params::Canada {
+    berth: false,
+    way: RestWay::Split,
+    cycle: 1,
+    day_start: 0,
+};
+
+const AUSTRALIA: Params = Params::Hvnl {};
+
+/// The most bytes that a log may have. A proof sees a number, and not which.
+fn limit() -> usize {
+    4_000_000
+}
+
+#[test]
+fn reads_a_header_alone(rt: HostRuntime) -> Result<(), Fail> {
+    for text in [b"from,to,status\n".as_slice(), b"from,to,status".as_slice()] {
+        let log = read_log(rt.alloc(), text, US, START)?;
+        assert!(rt; log.is_empty());
+    }
+    Ok(())
+}
+
+#[test]
+fn reads_what_csv_says(rt: HostRuntime) -> Result<(), Fail> {
+    let texts = [
+        b"from,to,status\n2026-03-02T04:00,2026-03-02T04:30,D\n2026-03-02T04:30,2026-03-02T05:00,D\n2026-03-02T05:00,2026-03-02T06:00,SB\n".as_slice(),
+        b"from,to,status\r\n2026-03-02T04:00,2026-03-02T05:00,D\r\n2026-03-02T05:00,2026-03-02T06:00,SB\r\n".as_slice(),
+        b"\xEF\xBB\xBF\"from\",to,status\n\n\"2026-03-02T04:00\",2026-03-02T05:00,\"D\"\n2026-03-02T05:00,2026-03-02T06:00,\"SB".as_slice(),
+    ];
+    for text in texts {
+        let log = read_log(rt.alloc(), text, CANADA, START)?;
+        let runs = log.runs();
+        assert_eq!(rt; runs.len(), 2);
+        assert_eq!(rt;
+            runs.first(),
+            Some(&Run {
+                act: Activity::Drive,
+                from: 0,
+                to: 60
+            })
+        );
+        assert_eq!(rt;
+            runs.last(),
+            Some(&Run {
+                act: Activity::Berth,
+                from: 60,
+                to: 120
+            })
+        );
+    }
+    Ok(())
+}
+
+#[test]
+fn reads_australian_units(rt: HostRuntime) -> Result<(), Fail> {
+    let text =
+        b"from,to,status\n2026-03-02T04:15,2026-03-02T05:45,WORK\n2026-03-02T05:45,2026-03-02T06:00,REST\n";
+    let log = read_log(rt.alloc(), text.as_slice(), AUSTRALIA, START)?;
+    let runs = log.runs();
+    assert_eq!(rt; runs.len(), 2);
+    assert_eq!(rt;
+        runs.first(),
+        Some(&Run {
+            act: Activity::Serve,
+            from: 0,
+            to: 6
+        })
+    );
+    assert_eq!(rt;
+        runs.last(),
+        Some(&Run {
+            act: Activity::Off,
+            from: 6,
+            to: 7
+        })
+    );
+    Ok(())
+}
+
+#[test]
+fn tells_the_first_fault(rt: HostRuntime) {
+    let faults = [
+        (b"".as_slice(), US, LogFault::BadHeader),
+        (b"from,to,status,\n".as_slice(), US, LogFault::BadHeader),
+        (
+            b"from,to,status\nD,D\n".as_slice(),
+            US,
+            LogFault::NotCsv { row: 1 },
+        ),
+        (
+            b"from,to,status\n2026-03-02T04:00,2026-02-29T06:00,D\n".as_slice(),
+            US,
+            LogFault::BadTime { row: 1 },
+        ),
+        (
+            b"from,to,status\n2026-03-02T04:00,2026-03-02T06:00,WORK\n".as_slice(),
+            US,
+            LogFault::BadStatus { row: 1 },
+        ),
+        (
+            b"from,to,status\n2026-03-02T06:00,2026-03-02T06:00,D\n".as_slice(),
+            US,
+            LogFault::Empty { row: 1 },
+        ),
+        (
+            b"from,to,status\n2026-03-02T04:00,2026-03-02T05:00,D\n2026-03-02T05:01,2026-03-02T06:00,ON\n".as_slice(),
+            US,
+            LogFault::Gap { row: 2 },
+        ),
+        (
+            b"from,to,status\n2026-03-02T05:00,2026-03-02T05:50,WORK\n".as_slice(),
+            AUSTRALIA,
+            LogFault::NotOnUnit { row: 1 },
+        ),
+        (
+            b"from,to,status\n2026-02-09T05:59,2026-03-02T06:00,OFF\n".as_slice(),
+            US,
+            LogFault::TooLong { row: 1 },
+        ),
+        (
+            b"from,to,status\n2026-02-09T05:59,2026-03-02T05:59,OFF\n".as_slice(),
+            US,
+            LogFault::EndsElsewhere,
+        ),
+    ];
+    for (text, params, fault) in faults {
+        assert_eq!(rt;
+            read_log(rt.alloc(), text, params, START).err(),
+            Some(fault)
+        );
+    }
+}
+
+#[test]
+fn tells_where_a_log_is_too_big(rt: HostRuntime) -> Result<(), Fail> {
+    let mut lines = vec![in rt.alloc(); b'\n'; limit()]?;
+    assert_eq!(rt;
+        read_log(rt.alloc(), &lines, US, START).err(),
+        Some(LogFault::BadHeader)
+    );
+    lines.push(b'\n')?;
+    assert_eq!(rt;
+        read_log(rt.alloc(), &lines, US, START).err(),
+        Some(LogFault::TooBig)
+    );
+    Ok(())
+}

@@ -2,6 +2,7 @@ use Rattle.std.proofs.Common.{◌∙◌, sym, inl, arith}
 use Rattle.std.proofs.lemmas.Result.{err_from_is_err_and}
 use Rattle.csv.specs.Records.{fields_of}
 use Rattle.duty_log.proofs.RecordFacts.{read_ends, read_moves}
+use Rattle.duty_log.proofs.PlaceFacts.{sound_ends}
 use Rattle.duty_log.proofs.LoopFacts.{ends_elsewhere, ends_there, goes_on, loop_row, stops}
 use Rattle.duty_log.proofs.read.read_rows.Goals as goal
 
@@ -44,3 +45,7 @@ returns-else-ends_at-clause-fault c not_memory =
     let s = rw c.in-None.is at ((c.next.ensures.steps h.turns_left h.between.untrimmed).0 h.between.ready) in
     let none = read_ends c.loop-record.record-iterator.rdr c.next.new.self.rdr _ h.between s in
     ends_elsewhere c.args.params c.args.start c.loop-record.record-iterator.rdr _ _ _ h none (sym c.ends_at.ensures ∙ c.if-ends_at.false)
+
+pub returns-then-ends_at-clause-ends : goal.returns-then-ends_at-clause-ends
+returns-then-ends_at-clause-ends c =
+    sound_ends c.args.params c.loop-record.rows c.args.start c.loop-record.before c.loop-record.timeline c.loop-record.invariant.sound (sym c.ends_at.ensures ∙ c.if-ends_at.true)
