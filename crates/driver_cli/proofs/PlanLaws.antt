@@ -12,7 +12,8 @@ use Rattle.rule_core.specs.Reach.{IsOneOf, Reaches}
 use Rattle.rule_core.specs.ReachLaws.{reaches-append, reaches_parted, reached_state}
 use Rattle.rule_core.specs.Machine.{IsMachine}
 use Rattle.rule_core.specs.Replay.{AreRootsOf}
-use Rattle.tour_model.specs.declared.limits.TheConstants.{LONGEST_LOG, EARLIEST_START}
+use Rattle.duty_core.specs.declared.limits.TheConstants.{LONGEST_LOG}
+use Rattle.tour_model.specs.declared.limits.TheConstants.{EARLIEST_START}
 use Rattle.tour_model.specs.declared.tour.Tour.{Tour}
 use Rattle.tour_model.specs.Tour.{IsTour}
 use Rattle.tour_model.specs.Word.{word_length}

@@ -2,7 +2,7 @@
 ghost use Rattle.std.specs.Prelude.{◌≡◌, ◌*◌, ◌≤◌, true, length, IfOk};
 ghost use Rattle.duty_core.specs.Params.{unit_minutes};
 ghost use Rattle.rule_core.specs.Replay.{AreRootsOf};
-ghost use Rattle.tour_model.specs.declared.limits.TheConstants.{LONGEST_LOG};
+ghost use Rattle.duty_core.specs.declared.limits.TheConstants.{LONGEST_LOG};
 ghost use Rattle.tour_model.specs.Schedule.{log_start};
 ghost use Rattle.tour_model.specs.Tour.{IsTour};
 ghost use Rattle.us_rules.specs.Machine.{root_state, nexts_after, covers_state};

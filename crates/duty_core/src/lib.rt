@@ -9,7 +9,7 @@ mod memory;
 mod params;
 
 pub use activity::{Activity, is_duty, is_rest};
-pub use limits::{LONGEST_HISTORY, MINUTE_LIMIT, US_DRIVING_LIMIT, US_FULL_REST};
+pub use limits::{LONGEST_HISTORY, LONGEST_LOG, MINUTE_LIMIT, US_DRIVING_LIMIT, US_FULL_REST};
 pub use mark::{Day, Mark, Marks, Minute};
 pub use memory::NoMemory;
 pub use params::{Params, RestWay, allowed, unit_of};

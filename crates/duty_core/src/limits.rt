@@ -3,6 +3,9 @@
 /// The greatest length of a history, log and schedule together, in units.
 pub const LONGEST_HISTORY: u32 = 50_400;
 
+/// The greatest length of a log before a tour, in minutes: three weeks.
+pub const LONGEST_LOG: u32 = 30_240;
+
 /// The civil minute that no call of a rule book reaches.
 pub const MINUTE_LIMIT: u32 = 100_000_000;
 

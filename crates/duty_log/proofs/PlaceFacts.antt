@@ -9,7 +9,7 @@ use Rattle.duty_core.specs.declared.params.Params.{Params}
 use Rattle.duty_core.specs.declared.params.Params.TheVariants.{UsProperty, Canada, Hvnl}
 use Rattle.duty_core.specs.Params.{unit_minutes}
 use Rattle.duty_log.specs.declared.fault.LogFault.{LogFault}
-use Rattle.duty_log.specs.declared.row.TheConstants.{LONGEST_LOG}
+use Rattle.duty_core.specs.declared.limits.TheConstants.{LONGEST_LOG}
 use Rattle.duty_log.specs.declared.row.Row.{Row}
 use Rattle.duty_log.specs.declared.row.Span.{Span}
 use Rattle.duty_log.specs.Log.{at_start, behind, ends_at, first_of, EndsAt, Place, ReadsRow, ReadsRows}

@@ -8,7 +8,7 @@ use Rattle.duty_core.specs.Params.{unit_minutes}
 use Rattle.duty_log.specs.declared.fault.LogFault.{LogFault}
 use Rattle.duty_log.specs.declared.fault.LogFault.TheVariants.{TooBig, BadHeader, NotCsv, BadTime, BadStatus, Empty, Gap, NotOnUnit, TooLong, EndsElsewhere, Memory}
 use Rattle.duty_log.specs.declared.read.TheConstants.{LOG_LIMIT}
-use Rattle.duty_log.specs.declared.row.TheConstants.{LONGEST_LOG}
+use Rattle.duty_core.specs.declared.limits.TheConstants.{LONGEST_LOG}
 use Rattle.duty_log.specs.declared.row.Row.{Row}
 use Rattle.duty_log.specs.declared.row.Span.{Span}
 use Rattle.duty_log.specs.Words.{header, activity_of}

@@ -9,7 +9,6 @@ mod word;
 
 pub use fault::LogFault;
 pub use read::{LOG_LIMIT, read_log};
-pub use row::LONGEST_LOG;
 
 #[cfg(test)]
 mod tests;

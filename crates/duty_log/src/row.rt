@@ -9,10 +9,7 @@ use crate::fields::three_fields;
 use crate::word::activity_of;
 use civil_minutes::read_minute;
 use csv::ByteRecord;
-use duty_core::{Activity, Minute, Params, unit_of};
-
-/// The most minutes from the first row's beginning to any row's end: 21 days.
-pub const LONGEST_LOG: u32 = 30_240;
+use duty_core::{Activity, LONGEST_LOG, Minute, Params, unit_of};
 
 /// The minutes from one up to another, without the other.
 #[derive(Clone, Copy, Debug, PartialEq, Eq)]

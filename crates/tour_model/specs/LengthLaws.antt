@@ -8,12 +8,12 @@ use Rattle.std.proofs.lemmas.List.{length-replicate, length-append}
 use Rattle.std.proofs.lemmas.List.Elements.{All-nil, All-cons, All-head, All-tail, All-contains}
 use Rattle.duty_core.specs.declared.activity.Activity.{Activity}
 use Rattle.duty_core.specs.declared.activity.Activity.TheVariants.{Serve}
-use Rattle.duty_core.specs.declared.limits.TheConstants.{LONGEST_HISTORY, MINUTE_LIMIT}
+use Rattle.duty_core.specs.declared.limits.TheConstants.{LONGEST_HISTORY, LONGEST_LOG, MINUTE_LIMIT}
 use Rattle.duty_core.specs.declared.params.Params.{Params}
 use Rattle.duty_core.specs.declared.params.Params.TheVariants.{UsProperty, Canada, Hvnl}
 use Rattle.duty_core.specs.Params.{unit_minutes, BeginsUnit}
 use Rattle.duty_core.specs.History.{IsTimed}
-use Rattle.tour_model.specs.declared.limits.TheConstants.{LONGEST_TOUR, LONGEST_LOG, LATEST_START}
+use Rattle.tour_model.specs.declared.limits.TheConstants.{LONGEST_TOUR, LATEST_START}
 use Rattle.tour_model.specs.declared.window.Window.{Window}
 use Rattle.tour_model.specs.declared.stop.Stop.{Stop}
 use Rattle.tour_model.specs.declared.tour.Tour.{Tour}

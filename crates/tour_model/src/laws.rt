@@ -1,9 +1,9 @@
 //! What holds of every schedule of a tour. The functions do nothing: their clauses are the laws.
 ghost use Rattle.std.specs.Prelude.{◌≡◌, ℕ, ◌+◌, ◌*◌, ◌<◌, ◌≤◌, true, List, length, All, Some};
 ghost use Rattle.duty_core.specs.declared.activity.Activity.{Activity};
-ghost use Rattle.duty_core.specs.declared.limits.TheConstants.{LONGEST_HISTORY};
+ghost use Rattle.duty_core.specs.declared.limits.TheConstants.{LONGEST_HISTORY, LONGEST_LOG};
 ghost use Rattle.duty_core.specs.Params.{allows, unit_minutes};
-ghost use Rattle.tour_model.specs.declared.limits.TheConstants.{LONGEST_TOUR, LONGEST_LOG};
+ghost use Rattle.tour_model.specs.declared.limits.TheConstants.{LONGEST_TOUR};
 ghost use Rattle.tour_model.specs.Tour.{IsTour};
 ghost use Rattle.tour_model.specs.Word.{word_length, may_do};
 ghost use Rattle.tour_model.specs.Way.{done, done_after, GoesFrom};

@@ -46,8 +46,5 @@ pub const MOST_WINDOWS: u32 = 8;
 /// The last minute at which a service may end, counted from the start of the tour: two weeks.
 pub const LONGEST_TOUR: u32 = 20_160;
 
-/// The greatest length of a log before a tour, in minutes: three weeks.
-pub const LONGEST_LOG: u32 = 30_240;
-
 /// The step that no question about a tour reaches, counted from its start.
 pub const STEP_LIMIT: u32 = 1_000_000;
