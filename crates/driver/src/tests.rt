@@ -5,39 +5,57 @@ use outside::{MemoryDesk, MemorySink, Word};
 use std::alloc::Global;
 use std::test::Fail;
 
-const PLAN: [&str; 2] = ["plan", "tour.json"];
+const PLAN: [&str; 3] = ["plan", "tour.json", "log.csv"];
 
-const SHORT: &str = r#"{"stops":[{"drive":240,"service":60,"opens":0,"closes":240}]}"#;
+const AUDIT: [&str; 3] = ["audit", "tour.json", "log.csv"];
 
-const LONG: &str = r#"{"stops":[{"drive":690,"service":30,"opens":0,"closes":1290}]}"#;
+/// A rested driver's log.
+const RESTED: &str = "from,to,status\n";
 
-const TOO_LONG: &str = r#"{"stops":[{"drive":690,"service":30,"opens":0,"closes":1080}]}"#;
-
-/// What a call is given: its words, what the file `tour.json` holds, the number of a fetch that is
-/// to fail, and after how many bytes the first send is to fail.
+/// What a call is given: its words, what the files `tour.json` and `log.csv` hold, the number of a
+/// fetch that is to fail, and after how many bytes the first send is to fail.
 #[derive(Clone, Copy)]
 struct Given<'a> {
     words: &'a [&'a str],
-    form: &'a str,
+    tour: &'a str,
+    log: &'a str,
     failing_fetch: Option<u32>,
     failing_send: Option<u32>,
 }
 
 impl<'a> Given<'a> {
-    fn new(words: &'a [&'a str], form: &'a str) -> Given<'a> {
+    fn new(words: &'a [&'a str], tour: &'a str, log: &'a str) -> Given<'a> {
         Given {
             words,
-            form,
+            tour,
+            log,
             failing_fetch: None,
             failing_send: None,
         }
     }
 }
 
+/// A tour of the United States on half hours with these stops.
+fn tour_of(alloc: Global, stops: &str) -> Result<String, NoMemory> {
+    Ok(format!(in alloc; r#"{{"book":"us","grid":30,"start":"2026-03-02T06:00","berth":false,"days":8,"day_start":"00:00","stops":[{stops}]}}"#)?)
+}
+
+/// The form of stop A.
+fn stop(
+    alloc: Global,
+    drive: u32,
+    service: u32,
+    from: &str,
+    to: &str,
+) -> Result<String, NoMemory> {
+    Ok(format!(in alloc; r#"{{"name":"A","drive":{drive},"service":{service},"windows":[["{from}","{to}"]]}}"#)?)
+}
+
 /// How the call ends, and all that it sends.
 fn answer(alloc: Global, given: Given) -> Result<(Status, Vec<u8>), NoMemory> {
     let mut desk = MemoryDesk::new(alloc);
-    desk.hold(&Word::new(alloc, "tour.json")?, given.form.as_bytes())?;
+    desk.hold(&Word::new(alloc, "tour.json")?, given.tour.as_bytes())?;
+    desk.hold(&Word::new(alloc, "log.csv")?, given.log.as_bytes())?;
     if let Some(number) = given.failing_fetch {
         desk.fail_fetch(number)?;
     }
@@ -55,17 +73,14 @@ fn answer(alloc: Global, given: Given) -> Result<(Status, Vec<u8>), NoMemory> {
 
 #[test]
 fn answers_words_and_faults(rt: HostRuntime) -> Result<(), Fail> {
-    let refused = r#"{"book":"us"}"#;
-    let given = Given::new(&PLAN, refused);
+    let usage = "usage: driver plan TOUR LOG\n       driver audit TOUR LOG\n";
+    let given = Given::new(&PLAN, "{}", "");
     let cases = [
-        (given, Status::Refused, "tour refused: NotYet\n"),
+        (given, Status::Refused, "tour refused: Missing book\n"),
+        (Given::new(&[], "{}", ""), Status::Usage, usage),
+        (Given::new(&["plan", "tour.json"], "{}", ""), Status::Usage, usage),
         (
-            Given::new(&[], refused),
-            Status::Usage,
-            "usage: driver plan TOUR\n",
-        ),
-        (
-            Given::new(&["plan", "no.json"], refused),
+            Given::new(&["plan", "no.json", "log.csv"], "{}", ""),
             Status::ReadFault,
             "read fault no.json\n",
         ),
@@ -95,15 +110,114 @@ fn answers_words_and_faults(rt: HostRuntime) -> Result<(), Fail> {
 }
 
 #[test]
+fn refuses_tours(rt: HostRuntime) -> Result<(), Fail> {
+    let alloc = rt.alloc();
+    let late = stop(alloc, 240, 30, "2026-03-02T06:00", "2026-03-16T06:00")?;
+    let good = stop(alloc, 240, 30, "2026-03-02T06:00", "2026-03-05T06:00")?;
+    let twice = format!(in alloc; "{good},{good}")?;
+    let cases = [
+        ("", "tour refused: NoStops\n"),
+        (late.as_str(), "tour refused: BeyondHorizon 1\n"),
+        (twice.as_str(), "tour refused: DuplicateStop A\n"),
+    ];
+    for (stops, text) in cases {
+        let tour = tour_of(alloc, stops)?;
+        let (ended, sent) = answer(alloc, Given::new(&PLAN, tour.as_str(), RESTED))?;
+        assert_eq!(rt; ended, Status::Refused, "where {text} is sent");
+        assert_eq!(rt; sent.as_slice(), text.as_bytes());
+    }
+    let grid = format!(in alloc; r#"{{"book":"us","grid":7,"start":"2026-03-02T06:00","berth":false,"days":8,"day_start":"00:00","stops":[{good}]}}"#)?;
+    let (ended, sent) = answer(alloc, Given::new(&PLAN, grid.as_str(), RESTED))?;
+    assert_eq!(rt; ended, Status::Refused);
+    assert_eq!(rt; sent.as_slice(), "tour refused: BadValue grid\n".as_bytes());
+    Ok(())
+}
+
+#[test]
+fn plans_no_other_books_yet(rt: HostRuntime) -> Result<(), Fail> {
+    let alloc = rt.alloc();
+    let good = stop(alloc, 240, 30, "2026-03-02T06:00", "2026-03-05T06:00")?;
+    let canada = format!(in alloc; r#"{{"book":"canada","grid":30,"start":"2026-03-02T06:00","berth":false,"rest":"split","cycle":1,"day_start":"00:00","stops":[{good}]}}"#)?;
+    let australia = format!(in alloc; r#"{{"book":"hvnl","grid":15,"start":"2026-03-02T06:00","stops":[{good}]}}"#)?;
+    for tour in [canada.as_str(), australia.as_str()] {
+        for words in [PLAN, AUDIT] {
+            let (ended, sent) = answer(alloc, Given::new(&words, tour, "no log"))?;
+            assert_eq!(rt; ended, Status::Refused);
+            assert_eq!(rt; sent.as_slice(), "tour refused: NotYet\n".as_bytes());
+        }
+    }
+    Ok(())
+}
+
+#[test]
+fn judges_logs(rt: HostRuntime) -> Result<(), Fail> {
+    let alloc = rt.alloc();
+    let good = stop(alloc, 240, 60, "2026-03-02T06:00", "2026-03-02T10:00")?;
+    let tour = tour_of(alloc, good.as_str())?;
+    let gap = "from,to,status\n2026-03-02T04:00,2026-03-02T05:00,D\n2026-03-02T05:30,2026-03-02T06:00,D\n";
+    let long = "from,to,status\n2026-03-01T18:00,2026-03-02T06:00,D\n";
+    let cases = [
+        (AUDIT, RESTED, Status::Done, "lawful\n"),
+        (AUDIT, gap, Status::Refused, "log refused: Gap 2\n"),
+        (PLAN, gap, Status::Refused, "log refused: Gap 2\n"),
+        (PLAN, "", Status::Refused, "log refused: BadHeader\n"),
+        (AUDIT, long, Status::LogUnlawful, "log unlawful at 2026-03-02T05:00\n"),
+        (PLAN, long, Status::LogUnlawful, "log unlawful at 2026-03-02T05:00\n"),
+    ];
+    for (words, log, status, text) in cases {
+        let (ended, sent) = answer(alloc, Given::new(&words, tour.as_str(), log))?;
+        assert_eq!(rt; ended, status, "where {text} is sent");
+        assert_eq!(rt; sent.as_slice(), text.as_bytes());
+    }
+    let missing = Given {
+        failing_fetch: Some(2),
+        ..Given::new(&AUDIT, tour.as_str(), RESTED)
+    };
+    let (ended, sent) = answer(alloc, missing)?;
+    assert_eq!(rt; ended, Status::ReadFault);
+    assert_eq!(rt; sent.as_slice(), "read fault log.csv\n".as_bytes());
+    Ok(())
+}
+
+#[test]
 fn plans_tours(rt: HostRuntime) -> Result<(), Fail> {
-    let (ended, sent) = answer(rt.alloc(), Given::new(&PLAN, SHORT))?;
-    assert_eq!(rt; ended, Status::Done);
-    assert_eq!(rt; sent.as_slice(), "shortest 5:00\nr 8 D\nr 2 S\n".as_bytes());
-    let (ended, sent) = answer(rt.alloc(), Given::new(&PLAN, LONG))?;
-    assert_eq!(rt; ended, Status::Done);
-    assert!(rt; sent.as_slice().starts_with("shortest 22:00\n".as_bytes()));
-    let (ended, sent) = answer(rt.alloc(), Given::new(&PLAN, TOO_LONG))?;
-    assert_eq!(rt; ended, Status::Infeasible);
-    assert_eq!(rt; sent.as_slice(), "infeasible\n".as_bytes());
+    let alloc = rt.alloc();
+    let monday = "2026-03-02T06:00";
+    let thursday = "2026-03-05T06:00";
+    let cases = [
+        (stop(alloc, 240, 60, monday, thursday)?, Status::Done, "shortest 5:00 from "),
+        (stop(alloc, 690, 30, monday, "2026-03-03T00:00")?, Status::Infeasible, "infeasible\n"),
+        (stop(alloc, 31, 1, "2026-03-02T09:10", thursday)?, Status::Done, "shortest 1:30 from "),
+        (stop(alloc, 0, 30, "2026-03-02T06:10", "2026-03-02T06:20")?, Status::Infeasible, "infeasible\n"),
+    ];
+    for (stops, status, text) in cases {
+        let tour = tour_of(alloc, stops.as_str())?;
+        let (ended, sent) = answer(alloc, Given::new(&PLAN, tour.as_str(), RESTED))?;
+        assert_eq!(rt; ended, status, "where {text} is sent");
+        assert!(rt; sent.as_slice().starts_with(text.as_bytes()));
+    }
+    Ok(())
+}
+
+#[test]
+fn plans_behind_a_log(rt: HostRuntime) -> Result<(), Fail> {
+    let alloc = rt.alloc();
+    // Eleven hours at the wheel up to the start: ten hours of rest have to come first.
+    let tired = "from,to,status\n2026-03-01T19:00,2026-03-02T06:00,D\n";
+    let cases = [
+        (
+            "2026-03-02T20:00",
+            Status::Done,
+            "shortest 4:30 from 2026-03-02T16:00 to 2026-03-02T20:30\n",
+        ),
+        ("2026-03-02T19:30", Status::Infeasible, "infeasible\n"),
+    ];
+    for (closes, status, text) in cases {
+        let stop = stop(alloc, 240, 30, "2026-03-02T06:00", closes)?;
+        let tour = tour_of(alloc, stop.as_str())?;
+        let (ended, sent) = answer(alloc, Given::new(&PLAN, tour.as_str(), tired))?;
+        assert_eq!(rt; ended, status, "where {text} is sent");
+        assert!(rt; sent.as_slice().starts_with(text.as_bytes()));
+    }
     Ok(())
 }
