@@ -2,7 +2,7 @@
 use Rattle.std.proofs.Common.{◌≡◌, ◌≢◌, ℕ, ◌+◌, ◌<◌, ◌≤◌, true, false, List, [], length, None, Some, Result, Ok, Err, refl, inl, inr}
 use Rattle.std.specs.Prelude.{IfOk, IfErr}
 use Rattle.std.specs.Borrow.{Bor}
-use Rattle.csv.specs.Reading.{default_config, records, source_of, strip_bom}
+use Rattle.csv.specs.Reading.{default_config, source_of, strip_bom}
 use Rattle.csv.specs.declared.parser.State.TheVariants as st
 use Rattle.csv.specs.declared.reader.Reader.{Reader}
 use Rattle.csv.specs.declared.reader.Trim.TheVariants as trim
@@ -13,8 +13,8 @@ use Rattle.duty_log.specs.declared.fault.LogFault.TheVariants.{BadHeader, EndsEl
 use Rattle.duty_log.specs.declared.read.TheConstants.{LOG_LIMIT}
 use Rattle.duty_log.specs.declared.row.Row.{Row}
 use Rattle.duty_log.specs.Words.{header}
-use Rattle.duty_log.specs.Log.{at_start, behind, ends_at, Place, ReadsLog, ReadsRow, ReadsRows}
-use Rattle.duty_log.specs.Records.{IsBetween, records_left}
+use Rattle.duty_log.specs.Log.{at_start, behind, ends_at, Place, ReadsLog, ReadsRecords, ReadsRow, ReadsRows}
+use Rattle.duty_log.specs.Records.{IsBetween, IsReaderOf, records_left}
 use Rattle.duty_log.proofs.RowFacts.{IsNext, row_next}
 use Rattle.duty_log.proofs.RecordFacts.{Moves}
 use Rattle.duty_log.proofs.PlaceFacts.{Continues, IsSound, StaysSound, continues_behind, continues_fault, stays_sound}
@@ -62,15 +62,11 @@ ends_elsewhere params start reader turns place all h none elsewhere = h.rest (Er
 
 -- ---- the header
 
--- What a reader is before its first read of a text.
-pub record IsFresh (reader : Reader (Bor (List ℕ))) (text : List ℕ) : Type 0 where
-  pub between : IsBetween reader
-  pub all : records default_config text ≡ records_left reader
-
-pub fresh : (reader : Reader (Bor (List ℕ))) (text : List ℕ) → reader.config ≡ default_config → reader.trim ≡ trim.None → reader.has_headers ≡ false → reader.headers ≡ None → reader.state ≡ st.StartRecord → source_of (λ text. Some text.now) reader ≡ Some text → IsFresh reader text
-fresh reader text plain untrimmed unnamed no_headers start source = record {
+pub fresh : (reader : Reader (Bor (List ℕ))) (text : List ℕ) → reader.config ≡ default_config → reader.flexible ≡ true → reader.trim ≡ trim.None → reader.has_headers ≡ false → reader.headers ≡ None → reader.state ≡ st.StartRecord → source_of (λ text. Some text.now) reader ≡ Some (strip_bom text) → IsReaderOf text reader
+fresh reader text plain flexible untrimmed unnamed no_headers start source = record {
   between = record {
     plain = plain;
+    flexible = flexible;
     untrimmed = untrimmed;
     ready = inr (inr (unnamed, no_headers));
     known = rw source refl;
@@ -79,18 +75,20 @@ fresh reader text plain untrimmed unnamed no_headers start source = record {
   all = rw (source, start) refl;
 }
 
--- the log is what the rows behind the header read as
-pub headed : (bytes : List ℕ) (params : Params) (start : ℕ) (old new : Reader (Bor (List ℕ))) (fields : List (List ℕ)) (answer : Result (List Activity) LogFault)
-    → length bytes ≤ LOG_LIMIT → records default_config (strip_bom bytes) ≡ records_left old → Moves old new fields → fields ≡ header → ReadsRows params start at_start (records_left new) answer → ReadsLog bytes params start answer
-headed bytes params start old new fields answer small all moves named told = inr (small, rw (all, moves.left) (inl (named, told)))
+-- the records read as the rows behind the header do
+pub headed : (params : Params) (start : ℕ) (old new : Reader (Bor (List ℕ))) (fields : List (List ℕ)) (answer : Result (List Activity) LogFault)
+    → Moves old new fields → fields ≡ header → ReadsRows params start at_start (records_left new) answer → ReadsRecords params start (records_left old) answer
+headed params start old new fields answer moves named told = rw moves.left (inl (named, told))
 
-pub misnamed : (bytes : List ℕ) (params : Params) (start : ℕ) (old new : Reader (Bor (List ℕ))) (fields : List (List ℕ))
-    → length bytes ≤ LOG_LIMIT → records default_config (strip_bom bytes) ≡ records_left old → Moves old new fields → fields ≢ header → ReadsLog bytes params start (Err BadHeader)
-misnamed bytes params start old new fields small all moves other = inr (small, rw (all, moves.left) (inr (other, refl)))
+pub misnamed : (params : Params) (start : ℕ) (old new : Reader (Bor (List ℕ))) (fields : List (List ℕ)) → Moves old new fields → fields ≢ header → ReadsRecords params start (records_left old) (Err BadHeader)
+misnamed params start old new fields moves other = rw moves.left (inr (other, refl))
 
-pub headless : (bytes : List ℕ) (params : Params) (start : ℕ) (old : Reader (Bor (List ℕ)))
-    → length bytes ≤ LOG_LIMIT → records default_config (strip_bom bytes) ≡ records_left old → records_left old ≡ [] → ReadsLog bytes params start (Err BadHeader)
-headless bytes params start old small all none = inr (small, rw (all, none) refl)
+pub headless : (params : Params) (start : ℕ) (old : Reader (Bor (List ℕ))) → records_left old ≡ [] → ReadsRecords params start (records_left old) (Err BadHeader)
+headless params start old none = rw none refl
+
+-- a log that is not too big reads as its records do
+pub as_records : (bytes : List ℕ) (params : Params) (start : ℕ) (reader : Reader (Bor (List ℕ))) (answer : Result (List Activity) LogFault) → length bytes ≤ LOG_LIMIT → IsReaderOf bytes reader → ReadsRecords params start (records_left reader) answer → ReadsLog bytes params start answer
+as_records bytes params start reader answer small h told = inr (small, rw (← h.all) told)
 
 -- ---- what follows for each answer
 

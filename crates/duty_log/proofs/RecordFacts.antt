@@ -1,6 +1,6 @@
 -- How the records that a reader has left follow its reads.
 use Rattle.std.proofs.Common.{◌≡◌, ℕ, zero, suc, ◌+◌, ◌-◌, ◌<◌, ◌≤◌, Bool, true, false, cond, List, [], ◌∷◌, ◌++◌, length, Option, Some, None, refl, ap, ◌∙◌, arith, add-one}
-use Rattle.std.specs.Prelude.{◌==◌, ◌||◌, IsSome, unwrap_or}
+use Rattle.std.specs.Prelude.{Result, Ok, Err, MatchResult, ◌==◌, ◌||◌, IsSome, unwrap_or}
 use Rattle.std.specs.Borrow.{Bor}
 use Rattle.csv.specs.Machine.{Read, ends_at_end, field_after, fields_after, in_field, is_end, next_record, start_field, start_record, step}
 use Rattle.csv.specs.Reading.{NextIs, ReadRecord, Ready, ReadsNext, default_config, pending_of, records_from, records_next, source_of}
@@ -10,6 +10,7 @@ use Rattle.csv.specs.declared.parser.State.{State}
 use Rattle.csv.specs.declared.parser.State.TheVariants as st
 use Rattle.csv.specs.declared.reader.Reader.{Reader}
 use Rattle.csv.proofs.ReadFacts.{rows-end}
+use Rattle.duty_log.specs.declared.fault.LogFault.{LogFault}
 use Rattle.duty_log.specs.Records.{IsBetween, bytes_left, records_left}
 
 -- ---- a byte that ends a record leaves a state between records
@@ -145,15 +146,22 @@ pub record Moves (old new : Reader (Bor (List ℕ))) (fields : List (List ℕ)) 
   pub between : IsBetween new
   pub left : records_left old ≡ fields ∷ records_left new
 
-pub read_moves : (old new : Reader (Bor (List ℕ))) (fields : List (List ℕ)) → IsBetween old → Ready new → ReadRecord (λ text. Some text.now) old new true fields → Moves old new fields
-read_moves old new fields h ready r =
+pub read_moves : (old new : Reader (Bor (List ℕ))) (fields : List (List ℕ)) → IsBetween old → Ready new → new.flexible ≡ old.flexible → ReadRecord (λ text. Some text.now) old new true fields → Moves old new fields
+read_moves old new fields h ready flexible r =
     let source : source_of (λ text. Some text.now) old ≡ Some (bytes_left old) = known_source _ h.known in
     let g = goes old.state new.state (bytes_left old) fields (pending_of (Some new.rdr.now) new) (rw (h.plain, source) at r.0) in
     let after : source_of (λ text. Some text.now) new ≡ Some g.rest = rw r.1 g.is in
     let k = some_known _ _ after in
     let state = leaves old.state [] [] (bytes_left old) (fields, new.state, g.rest) g.next in
     record {
-      between = record { plain = r.2 ∙ h.plain; untrimmed = r.3 ∙ h.untrimmed; ready = ready; known = k.0; between = state.between };
+      between = record {
+        plain = r.2 ∙ h.plain;
+        flexible = flexible ∙ h.flexible;
+        untrimmed = r.3 ∙ h.untrimmed;
+        ready = ready;
+        known = k.0;
+        between = state.between;
+      };
       left = records_step old.state new.state (bytes_left old) g.rest fields h.between g.next ∙ (rw k.1 refl);
     }
 
@@ -162,3 +170,8 @@ pub read_ends : (old new : Reader (Bor (List ℕ))) (fields : List (List ℕ)) �
 read_ends old new fields h r =
     let source : source_of (λ text. Some text.now) old ≡ Some (bytes_left old) = known_source _ h.known in
     records_end old.state (bytes_left old) (rows-end (λ text. Some text.now) old new fields default_config (bytes_left old) h.plain source r)
+
+-- the value of a result whose error was changed
+pub mapped_ok : {A D : Type 0} (r : Result A D) (y : A) → MatchResult r (λ x. ◌≡◌ {A = Result A LogFault} (Ok y) (Ok x)) (λ d. ⊥) → r ≡ Ok y
+mapped_ok {A = A} (Ok x) y h = let same : ◌≡◌ {A = Result A LogFault} (Ok y) (Ok x) = h in cc
+mapped_ok (Err d) y h = absurd h

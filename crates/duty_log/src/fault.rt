@@ -1,7 +1,9 @@
 //! What can be wrong with a log.
-ghost use Rattle.std.specs.Prelude.{◌≡◌};
+ghost use Rattle.std.specs.Prelude.{◌≡◌, true};
+ghost use Rattle.csv.specs.Reading.{error_kind, stops_reader};
 ghost use Rattle.duty_log.specs.declared.fault.LogFault.TheVariants.{Memory};
 
+use csv::ErrorKind;
 use duty_core::NoMemory;
 use thiserror::Error;
 
@@ -52,10 +54,17 @@ impl From<NoMemory> for LogFault {
     }
 }
 
-impl From<csv::Error> for LogFault {
-    ghost from_gives = { λ _ fault. fault ≡ Memory };
-
-    fn from(_: csv::Error) -> LogFault {
-        LogFault::Memory
+/// The fault where a read of CSV failed: the reader under it did, or memory ran out. `csv` asks
+/// nothing else of bytes, where records may be of any length.
+pub fn unread(error: csv::Error) -> LogFault
+    requires { stops_reader (error_kind error) ≡ true }
+    ensures { result ≡ LogFault.Memory }
+{
+    match error.kind() {
+        ErrorKind::Io(_) | ErrorKind::OutOfMemory => LogFault::Memory,
+        ErrorKind::Utf8 { .. }
+        | ErrorKind::UnequalLengths { .. }
+        | ErrorKind::Serialize(_)
+        | ErrorKind::Deserialize { .. } => unreachable!(),
     }
 }

@@ -3,10 +3,10 @@ ghost use Rattle.std.specs.Prelude.{◌≡◌, ◌≢◌, ◌+◌, ◌≤◌, �
 ghost use Rattle.duty_core.specs.declared.activity.Activity.{Activity};
 ghost use Rattle.duty_core.specs.declared.limits.TheConstants.{LONGEST_HISTORY};
 ghost use Rattle.duty_log.specs.declared.fault.LogFault.{LogFault};
-ghost use Rattle.duty_log.specs.Log.{at_start, Answers, EndsAt, ReadsLog, ReadsRows};
-ghost use Rattle.duty_log.specs.Records.{IsBetween, records_left};
+ghost use Rattle.duty_log.specs.Log.{at_start, Answers, EndsAt, ReadsLog, ReadsRecords, ReadsRows};
+ghost use Rattle.duty_log.specs.Records.{IsBetween, IsReaderOf, records_left};
 
-use crate::fault::LogFault;
+use crate::fault::{LogFault, unread};
 use crate::fields::is_header;
 use crate::row::{Span, ends_at, first_of, read_row, units_of};
 use csv::{ByteRecord, Reader, ReaderBuilder};
@@ -19,11 +19,12 @@ pub const LOG_LIMIT: usize = 4_000_000;
 
 /// Reads a log: the units of what the driver did, up to the tour's start.
 ///
-/// A log is CSV: commas stand between fields, and records end at LF, CR or CRLF; empty lines count
+/// A log is CSV: commas stand between fields, and records end at LF, CR or CRLF. Empty lines count
 /// for nothing, and so does a byte order mark before the first record. A field in quotes is what
-/// stands between them, with `""` for one quote; a quote that nothing closes takes the rest of the
-/// bytes into its field. Bytes that are no UTF-8 are bytes of a field, and so of no time and no
-/// status. The first record is the header `from,to,status`, and the others are rows, from 1.
+/// stands between them, with `""` for one quote, and what follows the closing quote up to the next
+/// comma; a quote that nothing closes takes the rest of the bytes into its field. Nothing is
+/// trimmed. Bytes that are no UTF-8 are bytes of a field, and so of no time and no status. The first
+/// record is the header `from,to,status`, and the others are rows, from 1.
 ///
 /// The faults are those of `LogFault`, and the answer is the first one. Only `Memory` may come for
 /// any bytes: where there was none, for the records or for the runs of the history.
@@ -41,12 +42,34 @@ pub fn read_log(
     if bytes.len() > LOG_LIMIT {
         return Err(LogFault::TooBig);
     }
-    let mut reader = ReaderBuilder::new()
+    read_records(alloc, reader_of(alloc, bytes), params, start)
+}
+
+/// A reader of every record of the bytes, each of any number of fields.
+fn reader_of(alloc: Global, bytes: &[u8]) -> Reader<&[u8]>
+    ensures { IsReaderOf bytes.now result }
+{
+    ReaderBuilder::new()
         .has_headers(false)
         .flexible(true)
-        .from_reader(alloc, bytes);
+        .from_reader(alloc, bytes)
+}
+
+/// Reads the records that the reader has left as those of a log, the header first.
+fn read_records(
+    alloc: Global,
+    reader: Reader<&[u8]>,
+    params: Params,
+    start: Minute,
+) -> Result<Timeline, LogFault>
+    requires { IsBetween reader }
+    ensures log { IfOk result (λ units. ReadsRecords params start (records_left reader.entry) (Ok units)) }
+    ensures fault { IfErr result (λ fault. fault ≢ LogFault.Memory → ReadsRecords params start (records_left reader.entry) (Err fault)) }
+    ensures ends { IfOk result (EndsAt params start) }
+{
+    let mut reader = reader;
     let mut first = ByteRecord::new(alloc);
-    let found = reader.read_byte_record(&mut first)?;
+    let found = reader.read_byte_record(&mut first).map_err(unread)?;
     if !found || !is_header(&first) {
         return Err(LogFault::BadHeader);
     }
@@ -69,8 +92,9 @@ fn read_rows(
     let mut rows = 0;
     let mut before: Option<Span> = None;
     for record in reader.into_byte_records() {
+        let record = record.map_err(unread)?;
         rows += 1;
-        let row = read_row(&record?, params, rows, before)?;
+        let row = read_row(&record, params, rows, before)?;
         append(&mut timeline, row.act, units_of(params, row))?;
         before = Some(Span {
             from: first_of(before, row.from),

@@ -1,7 +1,7 @@
 use Rattle.std.proofs.Common.{◌∙◌, sym, inl, arith}
 use Rattle.std.proofs.lemmas.Result.{err_from_is_err_and}
 use Rattle.csv.specs.Records.{fields_of}
-use Rattle.duty_log.proofs.RecordFacts.{read_ends, read_moves}
+use Rattle.duty_log.proofs.RecordFacts.{mapped_ok, read_ends, read_moves}
 use Rattle.duty_log.proofs.PlaceFacts.{sound_ends}
 use Rattle.duty_log.proofs.LoopFacts.{ends_elsewhere, ends_there, goes_on, loop_row, stops}
 use Rattle.duty_log.proofs.read.read_rows.Goals as goal
@@ -9,8 +9,10 @@ use Rattle.duty_log.proofs.read.read_rows.Goals as goal
 pub returns-in_err-row-clause-fault : goal.returns-in_err-row-clause-fault
 returns-in_err-row-clause-fault c =
     let h = c.loop-record.invariant in
-    let s = rw (c.in-Some.is, c.in_ok-record.was) at ((c.next.ensures.steps h.turns_left h.between.untrimmed).0 h.between.ready) in
-    let moves = read_moves c.loop-record.record-iterator.rdr c.next.new.self.rdr (fields_of c.in_ok-record.field-0) h.between (inl s.1) s.0 in
+    let item = mapped_ok c.in-Some.record c.in_ok-record.record c.in_ok-record.ensures.cases in
+    let step = rw (c.in-Some.is, item) at (c.next.ensures.steps h.turns_left h.between.untrimmed) in
+    let s = step.0 h.between.ready in
+    let moves = read_moves c.loop-record.record-iterator.rdr c.next.new.self.rdr (fields_of c.in_ok-record.record) h.between (inl s.1) step.3 s.0 in
     let p = err_from_is_err_and c.from_residual-in_err-row.result c.from_residual-in_err-row.ensures.1 in
     rw (p.1, p.2) (λ not_memory. stops c.args.params c.args.start _ _ _ _ _ _ c.in_err-row.field-0.0 h moves c.in_err-row.ensures)
 
@@ -28,8 +30,10 @@ append-requires c =
 pub loop-record-preserved : goal.loop-record-preserved
 loop-record-preserved c =
     let h = c.loop-record.invariant in
-    let s = rw (c.in-Some.is, c.in_ok-record.was) at ((c.next.ensures.steps h.turns_left h.between.untrimmed).0 h.between.ready) in
-    let moves = read_moves c.loop-record.record-iterator.rdr c.next.new.self.rdr (fields_of c.in_ok-record.field-0) h.between (inl s.1) s.0 in
+    let item = mapped_ok c.in-Some.record c.in_ok-record.record c.in_ok-record.ensures.cases in
+    let step = rw (c.in-Some.is, item) at (c.next.ensures.steps h.turns_left h.between.untrimmed) in
+    let s = step.0 h.between.ready in
+    let moves = read_moves c.loop-record.record-iterator.rdr c.next.new.self.rdr (fields_of c.in_ok-record.record) h.between (inl s.1) step.3 s.0 in
     rw (c.first_of.ensures, c.in_ok-append.ensures, c.units_of.ensures) (goes_on c.args.params c.args.start _ _ _ _ _ _ _ c.in_ok-row.row h moves s.2 c.in_ok-row.ensures)
 
 pub returns-then-ends_at-clause-log : goal.returns-then-ends_at-clause-log
