@@ -1,0 +1,10 @@
+pub mod TimeFacts
+pub mod FormFacts
+pub mod Lists
+pub mod StopFacts
+pub mod CheckFacts
+pub mod RoundingFacts
+pub mod Holds
+pub mod HeadLaws
+pub mod StopLaws
+pub mod TourLaws

@@ -1,0 +1,6 @@
+use Rattle.std.proofs.Common.{rules}
+use Rattle.tour_reader.proofs.TimeFacts.{read_time}
+use Rattle.tour_reader.proofs.time.time_of.Goals as goal
+
+pub returns : goal.returns
+returns c = search (rules, read_time)
