@@ -12,3 +12,10 @@ pub mod FirstLaws
 pub mod BestLaws
 pub mod PathLaws
 pub mod SearchLaws
+pub mod Words
+pub mod Departure
+pub mod Clock
+pub mod RunLines
+pub mod Prefixes
+pub mod Composed
+pub mod Exactly

@@ -4,3 +4,15 @@ pub mod Planning
 pub mod Plain
 pub mod Searching
 pub mod Planned
+pub mod Book
+pub mod Command
+pub mod Parts
+pub mod FaultText
+pub mod Report
+pub mod Texts
+pub mod Status
+pub mod Sent
+pub mod Given
+pub mod Judged
+pub mod Answers
+pub mod Exact

@@ -1,10 +1,21 @@
-//! The planner over any desk and any sink: its words, its tour, its search and its answers.
+//! The planner over any desk and any sink: its words, its files, its search and its answers.
 #![tactic(auto)]
 
+mod answer;
 mod by_layers;
+mod command;
+mod fault_text;
 mod growth;
+mod judge;
 mod label;
 mod layer;
 mod layer_list;
 mod path;
 mod plan;
+mod report;
+mod text;
+mod texts;
+mod top;
+
+pub use answer::Status;
+pub use top::drive_tool;

@@ -1,0 +1,11 @@
+-- Three words, by their places.
+use Rattle.std.proofs.Common.{◌≡◌, ◌<◌, ◌≤◌, List, [], ◌∷◌, length, get_or, arith}
+use Rattle.outside.specs.Outside.{Bytes}
+
+-- a list of three by its items
+pub three_words : (words : List Bytes) (a b c : Bytes) → 3 ≤ length words → length words < 4 → a ≡ get_or words 0 a → b ≡ get_or words 1 b → c ≡ get_or words 2 c → words ≡ a ∷ b ∷ c ∷ []
+three_words [] a b c least most p q r = absurd (omega arith)
+three_words (x ∷ []) a b c least most p q r = absurd (omega arith)
+three_words (x ∷ y ∷ []) a b c least most p q r = absurd (omega arith)
+three_words (x ∷ y ∷ z ∷ []) a b c least most p q r = cc
+three_words (w ∷ x ∷ y ∷ z ∷ zs) a b c least most p q r = absurd (omega arith)

@@ -1,0 +1,23 @@
+-- What the files of a tour and a log give.
+use Rattle.std.specs.Prelude.{◌≡◌, ℕ, ◌+◌, List, Option, Some, IfSome, Result}
+use Rattle.duty_core.specs.declared.activity.Activity.{Activity}
+use Rattle.tour_model.specs.declared.tour.Tour.{Tour}
+use Rattle.tour_reader.specs.declared.fault.TourFault.{TourFault}
+use Rattle.tour_reader.specs.declared.form.TheConstants.{TOUR_LIMIT}
+use Rattle.tour_reader.specs.Tour.{tour_of}
+use Rattle.duty_log.specs.declared.fault.LogFault.{LogFault}
+use Rattle.duty_log.specs.declared.read.TheConstants.{LOG_LIMIT}
+use Rattle.duty_log.specs.Log.{ReadsLog}
+use Rattle.outside.specs.Outside.{Bytes, Files, start_of}
+
+-- The file of that name gives this tour or fault: its first 1,000,001 bytes read as it. Where the desk does not tell its files, some bytes do.
+pub record GivesTour (files : Option Files) (name : Bytes) (answer : Result Tour TourFault) : Type 0 where
+  pub bytes : Bytes
+  pub start : IfSome files (λ files. start_of files name (TOUR_LIMIT + 1) ≡ Some bytes)
+  pub reads : tour_of bytes ≡ answer
+
+-- The file of that name gives this log or fault, for that tour: its first 4,000,001 bytes read as it.
+pub record GivesLog (files : Option Files) (name : Bytes) (tour : Tour) (answer : Result (List Activity) LogFault) : Type 0 where
+  pub bytes : Bytes
+  pub start : IfSome files (λ files. start_of files name (LOG_LIMIT + 1) ≡ Some bytes)
+  pub reads : ReadsLog bytes tour.params tour.start answer

@@ -1,0 +1,128 @@
+-- The report of a schedule: its duration and times, and a line for each of its runs.
+use Rattle.std.specs.Prelude.{ℕ, ◌+◌, ◌*◌, ◌/◌, ◌%◌, Bool, true, false, List, [], ◌∷◌, ◌++◌, length, codes, Option, None, Some, slice_get, unwrap_or, ◌==◌, ◌&&◌, if◌then◌else◌}
+use Rattle.std.specs.Fmt.{decimal}
+use Rattle.duty_core.specs.declared.activity.Activity.{Activity}
+use Rattle.duty_core.specs.declared.activity.Activity.TheVariants.{Drive, Serve, Wait, Off, Berth}
+use Rattle.tour_model.specs.declared.piece.Piece.{Piece}
+use Rattle.tour_model.specs.declared.piece.Piece.TheVariants as piece
+use Rattle.tour_model.specs.declared.stop.Stop.{Stop}
+use Rattle.tour_model.specs.declared.tour.Tour.{Tour}
+use Rattle.tour_model.specs.Schedule.{depart_from, duration}
+use Rattle.tour_model.specs.Way.{progresses, done}
+use Rattle.tour_model.specs.Word.{next_piece}
+use Rattle.driver_cli.specs.declared.report.Doing.{Doing}
+use Rattle.driver_cli.specs.Parts.{Part, Said, Time}
+
+-- ---- what each step does
+
+-- the number of the stop that a piece is for
+abbrev pub stop_of : Option Piece → Option ℕ
+stop_of None = None
+stop_of (Some (piece.Drive stop)) = Some stop
+stop_of (Some (piece.Serve stop first)) = Some stop
+
+-- what a step of this activity does after so much progress: driving and service are for the stop of the next piece
+abbrev pub doing_at : Tour → ℕ → Activity → Doing
+doing_at tour progress act = record { act = act; stop = if progresses act then stop_of (next_piece tour progress) else None }
+
+-- what the steps do, where so much is done before them
+abbrev pub doings : Tour → ℕ → List Activity → List Doing
+doings tour progress [] = []
+doings tour progress (act ∷ acts) = doing_at tour progress act ∷ doings tour (done progress act) acts
+
+-- ---- runs
+
+-- whether two activities are the same
+abbrev pub same_act : Activity → Activity → Bool
+same_act Drive Drive = true
+same_act Serve Serve = true
+same_act Wait Wait = true
+same_act Off Off = true
+same_act Berth Berth = true
+same_act _ _ = false
+
+-- whether two numbers of stops are the same
+abbrev pub same_stop : Option ℕ → Option ℕ → Bool
+same_stop None None = true
+same_stop (Some a) (Some b) = a == b
+same_stop _ _ = false
+
+-- whether two steps do the same for the same stop
+abbrev pub same : Doing → Doing → Bool
+same a b = same_act a.act b.act && same_stop a.stop b.stop
+
+-- a run of so many steps that do the same
+pub record Run : Type 0 where
+  pub count : ℕ
+  pub doing : Doing
+
+-- the runs with one step before them, which is of the first run where it does the same
+abbrev pub runs_with : Doing → List Run → List Run
+runs_with x [] = record { count = 1; doing = x } ∷ []
+runs_with x (run ∷ runs) =
+    if same x run.doing then (record { count = run.count + 1; doing = x } ∷ runs) else (record { count = 1; doing = x } ∷ (run ∷ runs))
+
+-- the runs of steps, each as long as it can be
+abbrev pub runs_of : List Doing → List Run
+runs_of [] = []
+runs_of (x ∷ xs) = runs_with x (runs_of xs)
+
+-- ---- lines
+
+-- the word of an activity
+abbrev pub act_word : Activity → List ℕ
+act_word Drive = codes "DRIVE"
+act_word Serve = codes "SERVE"
+act_word Wait = codes "WAIT"
+act_word Off = codes "OFF"
+act_word Berth = codes "SB"
+
+-- the name of a stop, and `-` for none
+abbrev pub name_of : Option Stop → List ℕ
+name_of None = codes "-"
+name_of (Some stop) = stop.name
+
+-- the stop of this number, where there is one
+abbrev pub stop_at : List Stop → Option ℕ → Option Stop
+stop_at stops None = None
+stop_at stops (Some number) = slice_get stops number
+
+-- `WORD NAME`
+abbrev pub doing_text : Tour → Doing → List ℕ
+doing_text tour doing = act_word doing.act ++ codes " " ++ name_of (stop_at tour.stops doing.stop)
+
+-- the civil minute at which a step begins
+abbrev pub minute_of : Tour → ℕ → ℕ
+minute_of tour step = tour.start + tour.grid * step
+
+-- `FROM TO WORD NAME` of steps from one up to another
+abbrev pub run_line : Tour → ℕ → ℕ → Doing → List Part
+run_line tour from to doing =
+    Time (minute_of tour from) ∷ Said (codes " ") ∷ Time (minute_of tour to) ∷ Said (codes " ") ∷ Said (doing_text tour doing) ∷ Said (codes "\n") ∷ []
+
+-- a line for each of the runs, the first of which begins at this step
+abbrev pub run_lines : Tour → ℕ → List Run → List Part
+run_lines tour from [] = []
+run_lines tour from (run ∷ runs) = run_line tour from (from + run.count) run.doing ++ run_lines tour (from + run.count) runs
+
+-- a number below 100 in two digits
+abbrev pub two_digits : ℕ → List ℕ
+two_digits n = (48 + n / 10) ∷ (48 + n % 10) ∷ []
+
+-- minutes as hours, a colon, and two digits of minutes
+abbrev pub clock_text : ℕ → List ℕ
+clock_text minutes = decimal (minutes / 60) ++ codes ":" ++ two_digits (minutes % 60)
+
+-- the step of the departure
+abbrev pub departure : List Activity → ℕ
+departure schedule = unwrap_or (depart_from 0 schedule) 0
+
+-- `shortest D from F to T`: the duration, the time of the departure, and the end
+abbrev pub head_line : Tour → List Activity → List Part
+head_line tour schedule =
+    Said (codes "shortest ") ∷ Said (clock_text (duration schedule * tour.grid)) ∷ Said (codes " from ") ∷ Time (minute_of tour (departure schedule))
+    ∷ Said (codes " to ") ∷ Time (minute_of tour (length schedule)) ∷ Said (codes "\n") ∷ []
+
+-- the report
+abbrev pub report : Tour → List Activity → List Part
+report tour schedule = head_line tour schedule ++ run_lines tour 0 (runs_of (doings tour 0 schedule))

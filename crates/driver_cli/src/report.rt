@@ -1,0 +1,212 @@
+//! The report of a schedule.
+ghost use Rattle.std.specs.Prelude.{◌≡◌, ◌<◌, ◌≤◌, ◌*◌, ◌/◌, ◌++◌, ◌↔◌, ℕ, [], length, IsTrue, unwrap_or, position, slice_get, IfOk, OnOk};
+ghost use Rattle.civil_minutes.specs.declared.century.TheConstants.{MINUTES_OF_CENTURY};
+ghost use Rattle.tour_model.specs.declared.limits.TheConstants.{LONGEST_TOUR};
+ghost use Rattle.tour_model.specs.Schedule.{depart_from, duration};
+ghost use Rattle.tour_model.specs.Tour.{IsTour};
+ghost use Rattle.tour_model.specs.Way.{progresses, done};
+ghost use Rattle.tour_model.specs.Word.{next_piece};
+ghost use Rattle.driver_cli.specs.Parts.{Puts, IsText};
+ghost use Rattle.driver_cli.specs.Report.{stop_of, doing_at, doings, runs_of, act_word, doing_text, name_of, stop_at, minute_of, run_line, run_lines, clock_text, departure, head_line, report};
+
+use crate::text::Text;
+use duty_core::{Activity, Minute, NoMemory};
+use std::alloc::Global;
+use tour_model::{Piece, Tour};
+
+/// What a step does: its activity, and the number of the stop that it drives to or serves.
+#[derive(Clone, Copy, Debug, PartialEq, Eq)]
+pub struct Doing {
+    pub act: Activity,
+    pub stop: Option<u32>,
+}
+
+/// The report of a schedule: its duration, departure and end, and a line for each of its runs, with
+/// their times.
+pub fn report_text(alloc: Global, tour: &Tour, schedule: &[Activity]) -> Result<Text, NoMemory>
+    requires tour { IsTour tour.now }
+    requires short { length schedule.now * tour.now.grid ≤ LONGEST_TOUR }
+    ensures { IfOk result (IsText (report tour.now schedule.now)) }
+{
+    let mut text = head_text(alloc, tour, schedule)?;
+    push_runs(&mut text, tour, schedule)?;
+    Ok(text)
+}
+
+/// The first line of a report.
+fn head_text(alloc: Global, tour: &Tour, schedule: &[Activity]) -> Result<Text, NoMemory>
+    requires tour { IsTour tour.now }
+    requires short { length schedule.now * tour.now.grid ≤ LONGEST_TOUR }
+    ensures { IfOk result (IsText (head_line tour.now schedule.now)) }
+{
+    let departs = departure(schedule) as u32;
+    let ends = schedule.len() as u32;
+    let mut text = Text::of(alloc, "shortest ")?;
+    push_clock(&mut text, alloc, (ends - departs) * tour.grid)?;
+    text.push_str(" from ")?;
+    text.push_time(minute_of(tour, departs))?;
+    text.push_str(" to ")?;
+    text.push_time(minute_of(tour, ends))?;
+    text.push_str("\n")?;
+    Ok(text)
+}
+
+/// Puts so many minutes behind the text, as hours and minutes.
+fn push_clock(text: &mut Text, alloc: Global, minutes: u32) -> Result<(), NoMemory>
+    ensures { OnOk result (text.new ≡ text.old ++ clock_text minutes) }
+{
+    let hours = minutes / 60;
+    let rest = minutes % 60;
+    let clock = format!(in alloc; "{hours}:{rest:02}")?;
+    text.push_str(clock.as_str())
+}
+
+/// The step of the departure.
+fn departure(schedule: &[Activity]) -> usize
+    ensures value { result ≡ departure schedule.now }
+    ensures inside { result ≤ length schedule.now }
+{
+    first_progress(schedule).unwrap_or(0)
+}
+
+/// The first step of driving or service.
+fn first_progress(schedule: &[Activity]) -> Option<usize>
+    ensures { result ≡ position progresses schedule.now }
+{
+    schedule.iter().position(|act| is_progress(*act))
+}
+
+/// Whether the activity does a step of a tour's driving or service.
+fn is_progress(act: Activity) -> bool
+    ensures { result ≡ progresses act }
+{
+    matches!(act, Activity::Drive | Activity::Serve)
+}
+
+/// The progress after an activity.
+fn done(progress: u32, act: Activity) -> u32
+    requires { progress ≤ LONGEST_TOUR }
+    ensures { result ≡ done progress act }
+{
+    if is_progress(act) {
+        progress + 1
+    } else {
+        progress
+    }
+}
+
+/// The civil minute at which a step begins.
+fn minute_of(tour: &Tour, step: u32) -> Minute
+    requires { minute_of tour.now step < MINUTES_OF_CENTURY }
+    ensures { result ≡ minute_of tour.now step }
+{
+    tour.start + tour.grid * step
+}
+
+/// The number of the stop that the piece is for which comes after so much progress.
+fn next_stop(tour: &Tour, progress: u32) -> Option<u32>
+    requires { IsTour tour.now }
+    ensures { result ≡ stop_of (next_piece tour.now progress) }
+{
+    if progress >= tour.word_len() {
+        return None;
+    }
+    match tour.word_at(progress) {
+        Piece::Drive { stop } | Piece::Serve { stop, .. } => Some(stop),
+    }
+}
+
+/// What a step of this activity does after so much progress.
+fn doing_at(tour: &Tour, progress: u32, act: Activity) -> Doing
+    requires { IsTour tour.now }
+    ensures { result ≡ doing_at tour.now progress act }
+{
+    let stop = if is_progress(act) {
+        next_stop(tour, progress)
+    } else {
+        None
+    };
+    Doing { act, stop }
+}
+
+/// Whether two steps do the same for the same stop.
+fn is_same(a: Doing, b: Doing) -> bool
+    ensures { IsTrue result ↔ (a ≡ b) }
+{
+    a == b
+}
+
+/// Puts a line for each run of equal steps behind the text.
+fn push_runs(text: &mut Text, tour: &Tour, schedule: &[Activity]) -> Result<(), NoMemory>
+    requires tour { IsTour tour.now }
+    requires short { length schedule.now * tour.now.grid ≤ LONGEST_TOUR }
+    ensures { OnOk result (Puts (run_lines tour.now 0 (runs_of (doings tour.now 0 schedule.now))) text.old text.new) }
+{
+    let Some((first, others)) = schedule.split_first() else {
+        return Ok(());
+    };
+    let mut doing = doing_at(tour, 0, *first);
+    let mut progress = done(0, *first);
+    let mut from = 0u32;
+    let mut step = 1u32;
+    for act in others {
+        let next = doing_at(tour, progress, *act);
+        if !is_same(next, doing) {
+            push_run(text, tour, from, step, doing)?;
+            doing = next;
+            from = step;
+        }
+        progress = done(progress, *act);
+        step += 1;
+    }
+    push_run(text, tour, from, step, doing)
+}
+
+/// Puts the line of one run behind the text.
+fn push_run(text: &mut Text, tour: &Tour, from: u32, to: u32, doing: Doing) -> Result<(), NoMemory>
+    requires from { minute_of tour.now from < MINUTES_OF_CENTURY }
+    requires to { minute_of tour.now to < MINUTES_OF_CENTURY }
+    ensures { OnOk result (Puts (run_line tour.now from to doing) text.old text.new) }
+{
+    text.push_time(minute_of(tour, from))?;
+    text.push_str(" ")?;
+    text.push_time(minute_of(tour, to))?;
+    text.push_str(" ")?;
+    push_doing(text, tour, doing)?;
+    text.push_str("\n")
+}
+
+/// Puts the word and the name of a run behind the text.
+fn push_doing(text: &mut Text, tour: &Tour, doing: Doing) -> Result<(), NoMemory>
+    ensures { OnOk result (text.new ≡ text.old ++ doing_text tour.now doing) }
+{
+    text.push_str(act_word(doing.act))?;
+    text.push_str(" ")?;
+    push_name(text, tour, doing.stop)
+}
+
+/// Puts the name of a stop behind the text, or `-` where there is none.
+fn push_name(text: &mut Text, tour: &Tour, stop: Option<u32>) -> Result<(), NoMemory>
+    ensures { OnOk result (text.new ≡ text.old ++ name_of (stop_at tour.now.stops stop)) }
+{
+    let Some(number) = stop else {
+        return text.push_str("-");
+    };
+    match tour.stops.items().get(number as usize) {
+        Some(stop) => text.push_bytes(stop.name.items()),
+        None => text.push_str("-"),
+    }
+}
+
+/// The word of an activity in a line.
+fn act_word(act: Activity) -> &'static str
+    ensures { result.now ≡ act_word act }
+{
+    match act {
+        Activity::Drive => "DRIVE",
+        Activity::Serve => "SERVE",
+        Activity::Wait => "WAIT",
+        Activity::Off => "OFF",
+        Activity::Berth => "SB",
+    }
+}
