@@ -57,6 +57,13 @@ mod tests {
     use std::test::Fail;
 
     #[test]
+    fn makes_a_word(rt: HostRuntime) -> Result<(), Fail> {
+        let word = Word::new(rt.alloc(), "plan")?;
+        assert_eq!(rt; word.as_str(), "plan");
+        Ok(())
+    }
+
+    #[test]
     fn copies_a_text(rt: HostRuntime) -> Result<(), Fail> {
         let word = Word::new(rt.alloc(), "Zürich")?;
         let copy = word.copy(rt.alloc())?;
