@@ -37,18 +37,16 @@ impl<'a> Given<'a> {
 
 /// A tour of the United States on half hours with these stops.
 fn tour_of(alloc: Global, stops: &str) -> Result<String, NoMemory> {
-    Ok(format!(in alloc; r#"{{"book":"us","grid":30,"start":"2026-03-02T06:00","berth":false,"days":8,"day_start":"00:00","stops":[{stops}]}}"#)?)
+    Ok(format!(in alloc;
+        r#"{{"book":"us","grid":30,"start":"2026-03-02T06:00","berth":false,"days":8,"day_start":"00:00","stops":[{stops}]}}"#
+    )?)
 }
 
 /// The form of stop A.
-fn stop(
-    alloc: Global,
-    drive: u32,
-    service: u32,
-    from: &str,
-    to: &str,
-) -> Result<String, NoMemory> {
-    Ok(format!(in alloc; r#"{{"name":"A","drive":{drive},"service":{service},"windows":[["{from}","{to}"]]}}"#)?)
+fn stop(alloc: Global, drive: u32, service: u32, from: &str, to: &str) -> Result<String, NoMemory> {
+    Ok(format!(in alloc;
+        r#"{{"name":"A","drive":{drive},"service":{service},"windows":[["{from}","{to}"]]}}"#
+    )?)
 }
 
 /// How the call ends, and all that it sends.
@@ -78,7 +76,11 @@ fn answers_words_and_faults(rt: HostRuntime) -> Result<(), Fail> {
     let cases = [
         (given, Status::Refused, "tour refused: Missing book\n"),
         (Given::new(&[], "{}", ""), Status::Usage, usage),
-        (Given::new(&["plan", "tour.json"], "{}", ""), Status::Usage, usage),
+        (
+            Given::new(&["plan", "tour.json"], "{}", ""),
+            Status::Usage,
+            usage,
+        ),
         (
             Given::new(&["plan", "no.json", "log.csv"], "{}", ""),
             Status::ReadFault,
@@ -126,7 +128,9 @@ fn refuses_tours(rt: HostRuntime) -> Result<(), Fail> {
         assert_eq!(rt; ended, Status::Refused, "where {text} is sent");
         assert_eq!(rt; sent.as_slice(), text.as_bytes());
     }
-    let grid = format!(in alloc; r#"{{"book":"us","grid":7,"start":"2026-03-02T06:00","berth":false,"days":8,"day_start":"00:00","stops":[{good}]}}"#)?;
+    let grid = format!(in alloc;
+        r#"{{"book":"us","grid":7,"start":"2026-03-02T06:00","berth":false,"days":8,"day_start":"00:00","stops":[{good}]}}"#
+    )?;
     let (ended, sent) = answer(alloc, Given::new(&PLAN, grid.as_str(), RESTED))?;
     assert_eq!(rt; ended, Status::Refused);
     assert_eq!(rt; sent.as_slice(), "tour refused: BadValue grid\n".as_bytes());
@@ -137,8 +141,12 @@ fn refuses_tours(rt: HostRuntime) -> Result<(), Fail> {
 fn plans_no_other_books_yet(rt: HostRuntime) -> Result<(), Fail> {
     let alloc = rt.alloc();
     let good = stop(alloc, 240, 30, "2026-03-02T06:00", "2026-03-05T06:00")?;
-    let canada = format!(in alloc; r#"{{"book":"canada","grid":30,"start":"2026-03-02T06:00","berth":false,"rest":"split","cycle":1,"day_start":"00:00","stops":[{good}]}}"#)?;
-    let australia = format!(in alloc; r#"{{"book":"hvnl","grid":15,"start":"2026-03-02T06:00","stops":[{good}]}}"#)?;
+    let canada = format!(in alloc;
+        r#"{{"book":"canada","grid":30,"start":"2026-03-02T06:00","berth":false,"rest":"split","cycle":1,"day_start":"00:00","stops":[{good}]}}"#
+    )?;
+    let australia = format!(in alloc;
+        r#"{{"book":"hvnl","grid":15,"start":"2026-03-02T06:00","stops":[{good}]}}"#
+    )?;
     for tour in [canada.as_str(), australia.as_str()] {
         for words in [PLAN, AUDIT] {
             let (ended, sent) = answer(alloc, Given::new(&words, tour, "no log"))?;
@@ -154,15 +162,26 @@ fn judges_logs(rt: HostRuntime) -> Result<(), Fail> {
     let alloc = rt.alloc();
     let good = stop(alloc, 240, 60, "2026-03-02T06:00", "2026-03-02T10:00")?;
     let tour = tour_of(alloc, good.as_str())?;
-    let gap = "from,to,status\n2026-03-02T04:00,2026-03-02T05:00,D\n2026-03-02T05:30,2026-03-02T06:00,D\n";
+    let gap =
+        "from,to,status\n2026-03-02T04:00,2026-03-02T05:00,D\n2026-03-02T05:30,2026-03-02T06:00,D\n";
     let long = "from,to,status\n2026-03-01T18:00,2026-03-02T06:00,D\n";
     let cases = [
         (AUDIT, RESTED, Status::Done, "lawful\n"),
         (AUDIT, gap, Status::Refused, "log refused: Gap 2\n"),
         (PLAN, gap, Status::Refused, "log refused: Gap 2\n"),
         (PLAN, "", Status::Refused, "log refused: BadHeader\n"),
-        (AUDIT, long, Status::LogUnlawful, "log unlawful at 2026-03-02T05:00\n"),
-        (PLAN, long, Status::LogUnlawful, "log unlawful at 2026-03-02T05:00\n"),
+        (
+            AUDIT,
+            long,
+            Status::LogUnlawful,
+            "log unlawful at 2026-03-02T05:00\n",
+        ),
+        (
+            PLAN,
+            long,
+            Status::LogUnlawful,
+            "log unlawful at 2026-03-02T05:00\n",
+        ),
     ];
     for (words, log, status, text) in cases {
         let (ended, sent) = answer(alloc, Given::new(&words, tour.as_str(), log))?;
@@ -185,10 +204,26 @@ fn plans_tours(rt: HostRuntime) -> Result<(), Fail> {
     let monday = "2026-03-02T06:00";
     let thursday = "2026-03-05T06:00";
     let cases = [
-        (stop(alloc, 240, 60, monday, thursday)?, Status::Done, "shortest 5:00 from "),
-        (stop(alloc, 690, 30, monday, "2026-03-03T00:00")?, Status::Infeasible, "infeasible\n"),
-        (stop(alloc, 31, 1, "2026-03-02T09:10", thursday)?, Status::Done, "shortest 1:30 from "),
-        (stop(alloc, 0, 30, "2026-03-02T06:10", "2026-03-02T06:20")?, Status::Infeasible, "infeasible\n"),
+        (
+            stop(alloc, 240, 60, monday, thursday)?,
+            Status::Done,
+            "shortest 5:00 from ",
+        ),
+        (
+            stop(alloc, 690, 30, monday, "2026-03-03T00:00")?,
+            Status::Infeasible,
+            "infeasible\n",
+        ),
+        (
+            stop(alloc, 31, 1, "2026-03-02T09:10", thursday)?,
+            Status::Done,
+            "shortest 1:30 from ",
+        ),
+        (
+            stop(alloc, 0, 30, "2026-03-02T06:10", "2026-03-02T06:20")?,
+            Status::Infeasible,
+            "infeasible\n",
+        ),
     ];
     for (stops, status, text) in cases {
         let tour = tour_of(alloc, stops.as_str())?;

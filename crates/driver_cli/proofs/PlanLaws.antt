@@ -78,10 +78,13 @@ covers_log tour log is_state root nexts advances covers tries m t l roots h targ
           let q = h.all s r.0 r.1 in
           let d = c.started q.0.state (q.0, q.1, refl) (record { eta = eta.eta; is = eta.is }) in
           let over : covers q.0.state s (minute_of tour 0) ≡ true = subst (λ at. covers q.0.state s at ≡ true) (log_ends tour t log l) q.2 in
-          let b = better_from problem 0 (root_label q.0.state) (root_label s) (record { depart = refl; progress = refl; state = over }) in
-          (d.0, d.1, better_on problem (state_at tour is_state) (allows tour.params) laws 0 d.0.label (root_label q.0.state) (root_label s)
-            (sound_label problem (state_at tour is_state) (allows tour.params) (IsLogState tour log root nexts) roots layers laws states begins sound 0 d.0 d.1).state
-            (states q.0.state (begins q.0 q.1)) (states s r) d.2 b);
+          let b = better_from problem 0 (root_label q.0.state) (root_label s) (record { depart = refl; progress = refl; state = over }) in (
+            d.0,
+            d.1,
+            better_on problem (state_at tour is_state) (allows tour.params) laws 0 d.0.label (root_label q.0.state) (root_label s)
+                (sound_label problem (state_at tour is_state) (allows tour.params) (IsLogState tour log root nexts) roots layers laws states begins sound 0 d.0 d.1).state
+                (states q.0.state (begins q.0 q.1)) (states s r) d.2 b,
+          );
       finished = c.finished;
       answered = c.answered;
     }
@@ -151,9 +154,9 @@ solution_at_least tour log is_state root nexts advances covers tries m t l roots
     let begins = root_reached tour log root nexts covers roots h in
     let w = solution_way tour log is_state root nexts advances covers tries m t l xs s in
     no_shorter problem (state_at tour is_state) (allows tour.params) (IsLogState tour log root nexts) target layers laws
-      (covers_log tour log is_state root nexts advances covers tries m t l roots h target layers sound c)
-      (sound_label problem (state_at tour is_state) (allows tour.params) (IsLogState tour log root nexts) roots layers laws states begins sound)
-      w.from w.start (states w.from w.start) xs w.marks w.end w.goes w.whole w.path
+    (covers_log tour log is_state root nexts advances covers tries m t l roots h target layers sound c)
+    (sound_label problem (state_at tour is_state) (allows tour.params) (IsLogState tour log root nexts) roots layers laws states begins sound)
+    w.from w.start (states w.from w.start) xs w.marks w.end w.goes w.whole w.path
 
 -- the path of a finished label is a shortest solution, where the layers are a cover list for what it takes
 pub found_shortest : {S : Type 0} (tour : Tour) (log : List Activity) (is_state : S → ℕ → Type 0) (root : S) (nexts : S → ℕ → Activity → List (Next S)) (advances : S → ℕ → Activity → ℕ → List (Next S)) (covers : S → S → ℕ → Bool) (tries : S → Idles) →
@@ -192,4 +195,4 @@ pub labels_reached : {S : Type 0} (tour : Tour) (log : List Activity) (is_state 
     (layers : List (List (Kept S))) (n : ℕ) → IsSound (problem_of tour advances covers tries) roots layers → n ≤ label_count layers → HasLabels (problem_of tour advances covers tries) (IsLogState tour log root nexts) n
 labels_reached tour log is_state root nexts advances covers tries m t l roots h layers n sound many =
     sound_labels (problem_of tour advances covers tries) (state_at tour is_state) (allows tour.params) (IsLogState tour log root nexts) roots layers n
-      (problem_laws tour (log_start tour log) is_state root nexts advances covers tries m t) (log_state tour log is_state root nexts advances covers tries m t l) (root_reached tour log root nexts covers roots h) sound many
+    (problem_laws tour (log_start tour log) is_state root nexts advances covers tries m t) (log_state tour log is_state root nexts advances covers tries m t l) (root_reached tour log root nexts covers roots h) sound many

@@ -104,7 +104,7 @@ way_more problem is_state allowed starts laws roots root step xs l g w o eta =
       goes = allowed_more problem allowed 0 0 xs q.by w.goes (subst (λ n. problem.may n (done_after 0 xs) q.by ≡ true) (sym at) (subst (λ p. problem.may step p q.by ≡ true) w.progress q.may)) ok;
       marks = w.marks ++ option_to_list q.next.mark;
       path = subst (Reaches 1 problem.nexts root 0 (xs ++ q.by ∷ []) (w.marks ++ option_to_list q.next.mark)) (ap (λ r. r.label.state) q.is)
-        (reaches-append 1 problem.nexts xs (q.by ∷ []) root 0 w.marks l.state (option_to_list q.next.mark) q.next.state w.path
+          (reaches-append 1 problem.nexts xs (q.by ∷ []) root 0 w.marks l.state (option_to_list q.next.mark) q.next.state w.path
           (q.next, subst (λ n. IsOneOf (problem.nexts l.state n q.by) q.next) unit q.follows, [], sym (append-nil (option_to_list q.next.mark)), (refl, refl)));
       progress = sym (ap (λ r. r.label.progress) q.is) ∙ (ap (λ p. done p q.by) w.progress ∙ sym (done_more 0 xs q.by));
       depart = sym (ap (λ r. r.label.depart) q.is) ∙ (ap (λ d. departed d q.by step) w.depart ∙ (ap (λ n. departed (depart_from 0 xs) q.by n) (sym at) ∙ sym (depart-snoc 0 xs q.by)));
@@ -149,7 +149,7 @@ sound_way problem is_state allowed starts roots layers laws states begins sound 
       root = w.root;
       there = ap (λ o. slice_get roots (root_of layers step (parent_of o))) there ∙ w.there;
       way = subst (λ xs. IsWay problem allowed starts w.root.state (suc step) xs k.label) p
-        (way_more problem is_state allowed starts laws states w.root.state step (path_of layers step k.parent) f.parent.label (record { label = k.label; act = k.act; mark = k.mark }) w.way f.grown
+          (way_more problem is_state allowed starts laws states w.root.state step (path_of layers step k.parent) f.parent.label (record { label = k.label; act = k.act; mark = k.mark }) w.way f.grown
           (subst (λ n. HasEta problem n k.label) one f.has_eta));
     }
 
@@ -200,12 +200,13 @@ count-bare (ks ∷ layers) =
 distinct_of : {S : Type 0} (problem : Problem S) (is_state : S → ℕ → Type 0) (allowed : Activity → Bool) → IsProblem problem is_state allowed →
     (step : ℕ) (ks : List (Kept S)) → ((k : Kept S) → IsOneOf ks k → is_state k.label.state step) → NoneIsBetter problem step ks → AreDistinct (bare ks)
 distinct_of problem is_state allowed laws step [] states none = tt
-distinct_of problem is_state allowed laws step (k ∷ ks) states none =
-    ((λ i. let q = one_of-map (λ m. m.label) ks k.label i in
+distinct_of problem is_state allowed laws step (k ∷ ks) states none = (
+  (λ i. let q = one_of-map (λ m. m.label) ks k.label i in
       let e : is_better problem step k.label k.label ≡ false = subst (λ l. is_better problem step k.label l ≡ false) q.2 (none.0 q.0 q.1) in
       let f : is_better problem step k.label k.label ≡ true = better_itself problem is_state allowed laws step k.label (states k (inl refl)) in
       let z : true ≡ false = sym f ∙ e in cc),
-    distinct_of problem is_state allowed laws step ks (λ m i. states m (inr i)) none.1)
+  distinct_of problem is_state allowed laws step ks (λ m i. states m (inr i)) none.1,
+)
 
 -- The labels of sound layers are distinct reachable labels.
 pub sound_labels : {S : Type 0} (problem : Problem S) (is_state : S → ℕ → Type 0) (allowed : Activity → Bool) (starts : S → Type 0) (roots : List (Root S)) (layers : List (List (Kept S))) (n : ℕ) →

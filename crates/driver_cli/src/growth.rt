@@ -110,7 +110,12 @@ fn push_by<B: RuleBook>(
     if !tour.may_do(step, label.progress, act) {
         return Ok(());
     }
-    let nexts = book.advance(&label.state, minute_at(tour, step), act, units_of_step(tour))?;
+    let nexts = book.advance(
+        &label.state,
+        minute_at(tour, step),
+        act,
+        units_of_step(tour),
+    )?;
     push_nexts(list, label, step, act, nexts)?;
     Ok(())
 }

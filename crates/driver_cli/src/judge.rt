@@ -15,10 +15,10 @@ ghost use Rattle.driver_cli.specs.Judged.{IsPlanAnswer, Judged, IsLogAnswer};
 
 use crate::answer::{Answer, Status};
 use crate::command::Command;
+use crate::plan::{Planned, plan_tour};
 use crate::report::report_text;
 use crate::text::Text;
 use crate::texts::{log_refused_text, spent_text};
-use crate::plan::{Planned, plan_tour};
 use duty_core::{Minute, NoMemory, Params, unit_of};
 use duty_log::{LogFault, read_log};
 use rule_core::{Replayed, Roots, RuleBook, replay};

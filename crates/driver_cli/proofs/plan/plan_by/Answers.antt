@@ -61,8 +61,8 @@ returns-in-Found g c =
     record {
       planned = subst (IsShortest tour log) (sym c.in_ok-rebuild-in-Found.ensures.path)
           (found_shortest tour log (g.B.RuleBook.is_state_at book) (g.B.RuleBook.root_of book first) (g.B.RuleBook.nexts_of book) (g.B.RuleBook.advances_of book) (g.B.RuleBook.covering book) (g.B.RuleBook.idles_of book)
-            (machine g book tour.params first c.requires.params (begins tour log c.requires.tour.whole_start)) c.requires.tour c.requires.short c.args.roots.now c.requires.roots
-            c.in-Found.layers c.in-Found.place.layer c.in-Found.place.index found.best found.sound found.there found.finished found.covers);
+          (machine g book tour.params first c.requires.params (begins tour log c.requires.tour.whole_start)) c.requires.tour c.requires.short c.args.roots.now c.requires.roots
+          c.in-Found.layers c.in-Found.place.layer c.in-Found.place.index found.best found.sound found.there found.finished found.covers);
     }
 
 pub returns-in-Never : goal.returns-in-Never
