@@ -1,5 +1,5 @@
 -- A form beside the values that the reader holds.
-use Rattle.std.proofs.Common.{◌≡◌, ℕ, ◌≤◌, List, [], ◌∷◌, length, map, find, not, Bool, true, false, cond, nat_lt, Option, Some, None, Result, Ok, Err, option_map, is_some, String, Global, string_bytes, IsUtf8, refl, sym, ap, ◌∙◌, arith}
+use Rattle.std.proofs.Common.{◌≡◌, ℕ, ◌≤◌, List, [], ◌∷◌, length, map, find, not, Bool, true, false, cond, nat_lt, Option, Some, None, Ok, Err, option_map, is_some, String, Global, string_bytes, IsUtf8, refl, sym, ap, ◌∙◌}
 use Rattle.std.specs.Map.{keys_of}
 use Rattle.std.specs.Str.{is_utf8}
 use Rattle.std.proofs.lemmas.Bool.{le-ltb}
@@ -7,11 +7,10 @@ use Rattle.std.proofs.lemmas.Str.{is_utf8-from_IsUtf8, IsUtf8-from_is_utf8}
 use Rattle.serde_json.specs.Data.{Data, Members}
 use Rattle.serde_json.specs.Find.{as_object}
 use Rattle.serde_json.specs.Read.{read}
-use Rattle.serde_json.specs.View.{view, items_of, members_view}
+use Rattle.serde_json.specs.View.{items_of, members_view}
 use Rattle.serde_json.specs.declared.value.Value.{Value}
 use Rattle.tour_reader.specs.declared.field.Field.{Field}
 use Rattle.tour_reader.specs.declared.form.TheConstants.{TOUR_LIMIT}
-use Rattle.tour_reader.specs.declared.fault.TourFault.{TourFault}
 use Rattle.tour_reader.specs.declared.fault.TourFault.TheVariants.{TooBig, NotJson}
 use Rattle.tour_reader.specs.Fields.{is_known, names_of_members, names_from, first_unknown}
 use Rattle.tour_reader.specs.Values.{list_of}

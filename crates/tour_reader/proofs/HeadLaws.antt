@@ -1,12 +1,11 @@
 -- What holds of each head that is read.
-use Rattle.std.proofs.Common.{◌≡◌, ℕ, ◌+◌, ◌*◌, ◌/◌, ◌%◌, ◌<◌, ◌≤◌, ◌==◌, ◌&&◌, length, slice_index, Bool, true, cond, nat_lt, eqb, zero, suc, get_or, List, [], ◌∷◌, Option, Some, None, Result, Ok, IfSome, IfOk, Contains, option_and_then, refl, sym, subst, arith}
+use Rattle.std.proofs.Common.{◌≡◌, ℕ, ◌+◌, ◌*◌, ◌/◌, ◌%◌, ◌<◌, ◌≤◌, ◌==◌, ◌&&◌, length, slice_index, nat_lt, eqb, zero, suc, get_or, List, [], ◌∷◌, Option, Some, None, Ok, IfSome, IfOk, Contains, option_and_then, refl, sym, subst, arith}
 use Rattle.std.proofs.lemmas.Bool.{eqb-true}
 use Rattle.std.proofs.lemmas.Map.Views.{Contains-from_any}
 use Rattle.std.proofs.lemmas.Result.{IfOk-weaker}
 use Rattle.serde_json.specs.Data.{Data}
 use Rattle.duty_core.specs.declared.params.Params.{Params}
 use Rattle.duty_core.specs.declared.params.Params.TheVariants as params
-use Rattle.duty_core.specs.declared.params.RestWay.{RestWay}
 use Rattle.duty_core.specs.Params.{unit_minutes, BeginsUnit}
 use Rattle.tour_model.specs.declared.limits.TheConstants.{DAY_MINUTES, FEWEST_DAYS, MOST_DAYS, MOST_CYCLE, EARLIEST_START, LATEST_START}
 use Rattle.tour_model.specs.Tour.{IsParams, grids_of}
@@ -15,7 +14,6 @@ use Rattle.tour_reader.specs.declared.field.Field.TheVariants as field
 use Rattle.tour_reader.specs.declared.book.Book.{Book}
 use Rattle.tour_reader.specs.declared.book.Book.TheVariants.{Us, Canada, Hvnl}
 use Rattle.tour_reader.specs.declared.head.Head.{Head}
-use Rattle.tour_reader.specs.declared.fault.TourFault.{TourFault}
 use Rattle.tour_reader.specs.Fields.{fields_of, with_fields}
 use Rattle.tour_reader.specs.Gives.{◌>>=◌, good}
 use Rattle.tour_reader.specs.Values.{number_of, whole_of, text_of, within}

@@ -1,5 +1,5 @@
 -- What holds of each value that a reading can give.
-use Rattle.std.proofs.Common.{◌≡◌, ◌≢◌, ℕ, ◌≤◌, Bool, true, false, cond, Option, Some, None, Result, Ok, Err, IfSome, IfOk, IfErr, option_and_then, refl, subst, sym}
+use Rattle.std.proofs.Common.{◌≡◌, ◌≢◌, ℕ, ◌≤◌, Bool, true, false, cond, Option, Some, None, Result, Ok, Err, IfSome, IfOk, IfErr, option_and_then, refl, subst}
 use Rattle.tour_reader.specs.declared.field.Field.{Field}
 use Rattle.tour_reader.specs.declared.fault.TourFault.{TourFault}
 use Rattle.tour_reader.specs.declared.fault.TourFault.TheVariants.{Memory}

@@ -1,25 +1,21 @@
 -- Each tour that is read is one.
-use Rattle.std.proofs.Common.{◌≡◌, ℕ, ◌+◌, ◌-◌, ◌*◌, ◌/◌, ◌<◌, ◌≤◌, ◌&&◌, nat_le, min, Bool, true, List, [], ◌∷◌, length, map, filter_map, All, Option, Some, None, Result, Ok, IfSome, IfOk, refl, sym, subst, arith}
+use Rattle.std.proofs.Common.{◌≡◌, ℕ, ◌+◌, ◌-◌, ◌*◌, ◌/◌, ◌≤◌, ◌&&◌, nat_le, List, [], ◌∷◌, length, map, filter_map, All, Option, Some, None, Ok, IfSome, IfOk, arith}
 use Rattle.std.specs.Int.{div_ceil}
 use Rattle.std.specs.List.{cons_option}
 use Rattle.std.proofs.lemmas.List.{length-map}
-use Rattle.std.proofs.lemmas.List.Elements.{All-nil, All-cons, All-head, All-tail, All-map}
+use Rattle.std.proofs.lemmas.List.Elements.{All-nil, All-cons, All-head, All-tail}
 use Rattle.serde_json.specs.Data.{Data}
-use Rattle.tour_model.specs.declared.limits.TheConstants.{MOST_DRIVE, MOST_SERVICE, MOST_WINDOWS, LONGEST_TOUR}
-use Rattle.tour_model.specs.declared.window.Window.{Window}
-use Rattle.tour_model.specs.declared.stop.Stop.{Stop}
-use Rattle.tour_model.specs.declared.tour.Tour.{Tour}
+use Rattle.tour_model.specs.declared.limits.TheConstants.{MOST_DRIVE, MOST_SERVICE, LONGEST_TOUR}
 use Rattle.tour_model.specs.Tour.{IsWindow, IsStop, IsTour}
 use Rattle.tour_reader.specs.declared.head.Head.{Head}
 use Rattle.tour_reader.specs.declared.written.Span.{Span}
 use Rattle.tour_reader.specs.declared.written.WrittenStop.{WrittenStop}
-use Rattle.tour_reader.specs.declared.fault.TourFault.{TourFault}
 use Rattle.tour_reader.specs.Gives.{◌>>=◌}
 use Rattle.tour_reader.specs.TimeLaws.{parts, le_from}
 use Rattle.tour_reader.specs.Head.{head_of}
 use Rattle.tour_reader.specs.Written.{stops_of}
 use Rattle.tour_reader.specs.Checks.{distinct, in_time}
-use Rattle.tour_reader.specs.Rounding.{steps_up, opening, closing, window_of, windows_of, stop_of, tour_from}
+use Rattle.tour_reader.specs.Rounding.{steps_up, opening, closing, window_of, stop_of, tour_from}
 use Rattle.tour_reader.specs.Tour.{form_of, tour_in, tour_of}
 use Rattle.tour_reader.proofs.Holds.{if_holds, any_ok, bind_holds}
 use Rattle.tour_reader.proofs.HeadLaws.{IsHead, head_holds, IsGrid, is_grid, at_grid}

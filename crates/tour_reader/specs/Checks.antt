@@ -12,7 +12,7 @@ use Rattle.tour_reader.specs.declared.fault.TourFault.TheVariants.{DuplicateStop
 abbrev pub stop_names : List WrittenStop → List (List ℕ)
 stop_names stops = map (λ stop. stop.name) stops
 
--- the first of the names that an earlier one equals, or one of those before them
+-- the first of the names that equals an earlier one of them, or one of those before all of them
 abbrev pub first_repeated : List (List ℕ) → List (List ℕ) → Option (List ℕ)
 first_repeated before [] = None
 first_repeated before (name ∷ names) = if list_any (bytes_eq name) before then Some name else first_repeated (before ++ name ∷ []) names

@@ -9,7 +9,6 @@ use Rattle.duty_core.specs.declared.params.Params.TheVariants as params
 use Rattle.duty_core.specs.declared.params.RestWay.{RestWay}
 use Rattle.duty_core.specs.declared.params.RestWay.TheVariants.{Split, Defer}
 use Rattle.tour_model.specs.declared.limits.TheConstants.{FEWEST_DAYS, MOST_DAYS, MOST_CYCLE, GRIDS, HVNL_GRIDS, EARLIEST_START, LATEST_START}
-use Rattle.tour_reader.specs.declared.field.Field.{Field}
 use Rattle.tour_reader.specs.declared.field.Field.TheVariants as field
 use Rattle.tour_reader.specs.declared.book.Book.{Book}
 use Rattle.tour_reader.specs.declared.book.Book.TheVariants.{Us, Canada, Hvnl}

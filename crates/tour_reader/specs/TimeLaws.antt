@@ -1,10 +1,10 @@
 -- The function of times says what the text of a time is: exactly these texts have a minute, and it is their civil minute.
-use Rattle.std.proofs.Common.{◌≡◌, ℕ, ◌+◌, ◌-◌, ◌*◌, ◌/◌, ◌%◌, ◌<◌, ◌≤◌, ◌↔◌, ◌&&◌, Bool, true, false, cond, nat_le, nat_lt, ℤ, pos, negsuc, List, Option, Some, None, refl, sym, ap, subst, ◌∙◌, arith}
+use Rattle.std.proofs.Common.{◌≡◌, ℕ, ◌+◌, ◌-◌, ◌*◌, ◌/◌, ◌%◌, ◌<◌, ◌≤◌, ◌↔◌, ◌&&◌, Bool, true, false, cond, nat_le, nat_lt, ℤ, pos, negsuc, List, Option, Some, None, refl, sym, ap, ◌∙◌, arith}
 use Rattle.std.specs.Str.{bytes_eq}
 use Rattle.std.proofs.lemmas.Slice.Eq.{bytes_eq-Decides}
 use Rattle.std.proofs.lemmas.Bool.Decides.{nat_tests}
 use Rattle.std.proofs.lemmas.Int.{ints}
-use Rattle.jiff_core.specs.Calendar.{IsDate, days_in_month}
+use Rattle.jiff_core.specs.Calendar.{days_in_month}
 use Rattle.civil_minutes.specs.Time.{IsTime, IsTimeText, time_text, minutes_until}
 use Rattle.tour_reader.specs.Times.{digits_at, is_time, natural, time_from, time_of}
 

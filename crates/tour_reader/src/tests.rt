@@ -159,18 +159,18 @@ fn tells_bad_values(rt: HostRuntime) -> Result<(), Fail> {
 fn tells_unknown_fields(rt: HostRuntime) -> Result<(), Fail> {
     let fields =
         r#""zz":1,"book":"us","grid":7,"start":"","berth":0,"days":0,"aa":1,"day_start":0"#;
-    match read(rt.alloc(), fields, "") {
+    match &read(rt.alloc(), fields, "") {
         Err(TourFault::Unknown { name, stop }) => {
             assert_eq!(rt; name.items(), b"aa".as_slice());
-            assert_eq!(rt; stop, None);
+            assert_eq!(rt; *stop, None);
         }
         _ => assert!(rt; false),
     }
     let stop = r#"{"name":"","drive":0,"service":0,"windows":[],"open":1}"#;
-    match read(rt.alloc(), US, stop) {
+    match &read(rt.alloc(), US, stop) {
         Err(TourFault::Unknown { name, stop }) => {
             assert_eq!(rt; name.items(), b"open".as_slice());
-            assert_eq!(rt; stop, Some(1));
+            assert_eq!(rt; *stop, Some(1));
         }
         _ => assert!(rt; false),
     }
@@ -187,7 +187,7 @@ fn tells_faults_of_all_stops(rt: HostRuntime) -> Result<(), Fail> {
     let answer = read(rt.alloc(), US, many.as_str());
     assert!(rt; matches!(answer, Err(TourFault::TooManyStops)));
     let twice = format!(in rt.alloc(); "{A},{B},{A}")?;
-    match read(rt.alloc(), US, twice.as_str()) {
+    match &read(rt.alloc(), US, twice.as_str()) {
         Err(TourFault::DuplicateStop { name }) => {
             assert_eq!(rt; name.items(), b"A".as_slice());
         }

@@ -1,4 +1,4 @@
-use Rattle.std.proofs.Common.{None, Some, rules}
+use Rattle.std.proofs.Common.{None, Some}
 use Rattle.tour_reader.proofs.FormFacts.{unknown_name}
 use Rattle.tour_reader.proofs.form.first_unknown.Goals as goal
 
