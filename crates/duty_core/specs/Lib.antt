@@ -7,3 +7,10 @@ pub mod Lawful
 pub mod HistoryLaws
 pub mod RunLaws
 pub mod BaseLaws
+pub mod Day
+pub mod Stretch
+pub mod Counting
+pub mod Marks
+pub mod DeclaredRest
+pub mod Base
+pub mod UsRules
