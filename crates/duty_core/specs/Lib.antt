@@ -14,3 +14,8 @@ pub mod Marks
 pub mod DeclaredRest
 pub mod Base
 pub mod UsRules
+pub mod CaDay
+pub mod CaShift
+pub mod LostMinutes
+pub mod Deferral
+pub mod CaCycle
