@@ -19,3 +19,7 @@ pub mod CaShift
 pub mod LostMinutes
 pub mod Deferral
 pub mod CaCycle
+pub mod AuPeriods
+pub mod AuNights
+pub mod RuleBooks
+pub mod Implies
