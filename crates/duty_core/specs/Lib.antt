@@ -23,3 +23,4 @@ pub mod AuPeriods
 pub mod AuNights
 pub mod RuleBooks
 pub mod Implies
+pub mod PlainlyBetter
