@@ -24,3 +24,5 @@ pub mod AuNights
 pub mod RuleBooks
 pub mod Implies
 pub mod PlainlyBetter
+pub mod DayLaws
+pub mod RuleLaws
