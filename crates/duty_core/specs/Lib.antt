@@ -26,3 +26,5 @@ pub mod Implies
 pub mod PlainlyBetter
 pub mod DayLaws
 pub mod RuleLaws
+pub mod LostLaws
+pub mod PrefixLaws

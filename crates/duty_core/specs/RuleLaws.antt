@@ -1,11 +1,15 @@
 -- What the rules that are asked at a place look at: nothing behind that place, and rest is asked nothing.
-use Rattle.std.proofs.Common.{◌≡◌, ℕ, ◌+◌, ◌<◌, ◌≤◌, true, false, List, drop, sym, refl, ◌∙◌, ap, subst, arith, inl, inr}
+use Rattle.std.proofs.Common.{◌≡◌, [], ◌↔◌, ℕ, ◌+◌, ◌<◌, ◌≤◌, true, false, List, drop, sym, refl, ◌∙◌, ap, subst, arith, inl, inr}
 use Rattle.std.specs.Prelude.{Bool, count_by}
 use Rattle.duty_core.specs.declared.activity.Activity.{Activity}
 use Rattle.duty_core.specs.declared.activity.Activity.TheVariants.{Drive}
 use Rattle.duty_core.specs.declared.limits.TheConstants.{US_FULL_REST, US_DRIVING_LIMIT}
 use Rattle.duty_core.specs.Activity.{rests, drives, works}
-use Rattle.duty_core.specs.History.{unit_at, between}
+use Rattle.duty_core.specs.History.{unit_at, between, padded}
+use Rattle.duty_core.specs.declared.params.Params.{Params}
+use Rattle.duty_core.specs.declared.rule.Rule.TheVariants.{UsDrive11}
+use Rattle.duty_core.specs.Marks.{IsSplitAt}
+use Rattle.duty_core.specs.RuleBooks.{Keeps}
 use Rattle.duty_core.specs.RestRun.{IsLongRun}
 use Rattle.duty_core.specs.UnitedStates.{IsUsBase, KeepsUsDrive11}
 use Rattle.duty_core.specs.HistoryLaws.{AreAlike, alike_back, IsRule}
@@ -176,28 +180,43 @@ ca_70without24_is_rule cycle = record {
 
 -- # The base without marks
 
+-- no mark names a rest run
+abbrev pub NoneMarked : (ℕ → Type 0) → Type 0
+NoneMarked Marked = (k : ℕ) → Marked k → ⊥
+
 -- a full rest alone is declared
-full_of : {p : List Activity} {a b : ℕ} → IsDeclared US_FULL_REST p (λ k. ⊥) a b → IsLongRun US_FULL_REST p a b
-full_of h = elim h [ inl f ↦ f | inr s ↦ absurd s.marked ]
+full_of : {full : ℕ} {p : List Activity} {Marked : ℕ → Type 0} {a b : ℕ} → NoneMarked Marked → IsDeclared full p Marked a b → IsLongRun full p a b
+full_of none h = elim h [ inl f ↦ f | inr s ↦ absurd (none _ s.marked) ]
 
 -- with no marks the base is the end of the last full rest, and nothing is omitted
-pub base_unmarked : (p : List Activity) (i base : ℕ) → IsUsBase p i base → IsBase US_FULL_REST p (λ k. ⊥) i base 0
-base_unmarked p i base h = inl (record {
+pub base_unmarked : (p : List Activity) (Marked : ℕ → Type 0) (i base : ℕ) → NoneMarked Marked → IsUsBase p i base → IsBase US_FULL_REST p Marked i base 0
+base_unmarked p Marked i base none h = inl (record {
   from = h.from;
-  last = record { declared = inl h.rest; before = h.before; last = λ a b e z. h.last a b (full_of e) z };
+  last = record { declared = inl h.rest; before = h.before; last = λ a b e z. h.last a b (full_of none e) z };
   rest = h.rest;
   none = refl;
 })
 
-pub unmarked_base : (p : List Activity) (i base omitted : ℕ) → IsBase US_FULL_REST p (λ k. ⊥) i base omitted → IsUsBase p i base
-unmarked_base p i base omitted h = elim h [
+pub unmarked_base : (p : List Activity) (Marked : ℕ → Type 0) (i base omitted : ℕ) → NoneMarked Marked → IsBase US_FULL_REST p Marked i base omitted → IsUsBase p i base
+unmarked_base p Marked i base omitted none h = elim h [
   | inl f ↦ record { from = f.from; rest = f.rest; before = f.last.before; last = λ a b e z. f.last.last a b (inl e) z }
-  | inr s ↦ absurd s.waits.split.marked
+  | inr s ↦ absurd (none s.from s.waits.split.marked)
 ]
 
 -- US-DRIVE11 without marks says what it says of full rests alone
-pub drive11_unmarked : (p : List Activity) (i : ℕ) → KeepsUsDrive11 p i → MeetsUsDrive11 p (λ k. ⊥) i
-drive11_unmarked p i h d base omitted b = h d base (unmarked_base p i base omitted b)
+pub drive11_unmarked : (p : List Activity) (Marked : ℕ → Type 0) (i : ℕ) → NoneMarked Marked → KeepsUsDrive11 p i → MeetsUsDrive11 p Marked i
+drive11_unmarked p Marked i none h d base omitted b = h d base (unmarked_base p Marked i base omitted none b)
 
-pub unmarked_drive11 : (p : List Activity) (i : ℕ) → MeetsUsDrive11 p (λ k. ⊥) i → KeepsUsDrive11 p i
-unmarked_drive11 p i h d base b = h d base 0 (base_unmarked p i base b)
+pub unmarked_drive11 : (p : List Activity) (Marked : ℕ → Type 0) (i : ℕ) → NoneMarked Marked → MeetsUsDrive11 p Marked i → KeepsUsDrive11 p i
+unmarked_drive11 p Marked i none h d base b = h d base 0 (base_unmarked p Marked i base none b)
+
+-- an empty list of marks names no run
+pub none_split : (params : Params) (first : ℕ) → NoneMarked (IsSplitAt params first [])
+none_split params first k h = let l = h.marked.1 in absurd (omega arith)
+
+-- and so it is for a whole history
+pub keeps_drive11_unmarked : (params : Params) (first : ℕ) (h : List Activity) → ((i : ℕ) → KeepsUsDrive11 (padded params h) i) ↔ Keeps params first h [] UsDrive11
+keeps_drive11_unmarked params first h = (
+  (λ k i. drive11_unmarked (padded params h) (IsSplitAt params first []) i (none_split params first) (k i)),
+  (λ k i. unmarked_drive11 (padded params h) (IsSplitAt params first []) i (none_split params first) (k i)),
+)
