@@ -28,3 +28,7 @@ pub mod DayLaws
 pub mod RuleLaws
 pub mod LostLaws
 pub mod PrefixLaws
+pub mod UniqueLaws
+pub mod CountLaws
+pub mod AuFrontLaws
+pub mod LostFrontLaws

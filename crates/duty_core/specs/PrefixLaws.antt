@@ -1,20 +1,50 @@
 -- The front of a history keeps what the whole one keeps, for each rule that is asked at a place.
-use Rattle.std.proofs.Common.{◌≡◌, ℕ, List, ◌++◌, sym, ◌∙◌, ap, subst}
+use Rattle.std.proofs.Common.{◌≡◌, ℕ, ◌<◌, ◌≤◌, true, false, length, inl, inr, List, ◌++◌, sym, ◌∙◌, ap, subst}
+use Rattle.std.specs.Prelude.{not}
+use Rattle.std.proofs.lemmas.Bool.{cases_lt}
 use Rattle.std.proofs.lemmas.List.{append_assoc}
 use Rattle.duty_core.specs.declared.activity.Activity.{Activity}
 use Rattle.duty_core.specs.declared.mark.Mark.{Mark}
 use Rattle.duty_core.specs.declared.params.Params.{Params}
 use Rattle.duty_core.specs.declared.rule.Rule.TheVariants.{UsWindow14, UsDrive11, UsBreak8, UsWeek, CaDay13, CaDay14, CaShift13, CaShift14, CaElapsed16, Ca24in14, CaCycle, Ca70without24}
-use Rattle.duty_core.specs.History.{pad_units, padding, padded}
-use Rattle.duty_core.specs.HistoryLaws.{IsRule, holds_before, holds_behind}
+use Rattle.duty_core.specs.Activity.{rests, works}
+use Rattle.duty_core.specs.LostLaws.{works_is}
+use Rattle.duty_core.specs.History.{unit_at, pad_units, padding, padded}
+use Rattle.duty_core.specs.HistoryLaws.{unit_at-append, unit_at-behind, IsRule, holds_before, holds_behind}
 use Rattle.duty_core.specs.Day.{day_number}
 use Rattle.duty_core.specs.Marks.{IsSplitAt}
 use Rattle.duty_core.specs.RuleBooks.{week_days, cycle_of, Keeps}
 use Rattle.duty_core.specs.RuleLaws.{us_window14_is_rule, us_drive11_is_rule, us_break8_is_rule, us_week_is_rule, ca_day13_is_rule, ca_day14_is_rule, ca_shift13_is_rule, ca_shift14_is_rule, ca_elapsed16_is_rule, ca_24in14_is_rule, ca_cycle_is_rule, ca_70without24_is_rule}
 
 -- the padded history of a front, as a front of the padded one
-padded_front : (params : Params) (h g : List Activity) → padded params (h ++ g) ≡ (padding params ++ h) ++ (g ++ padding params)
+pub padded_front : (params : Params) (h g : List Activity) → padded params (h ++ g) ≡ (padding params ++ h) ++ (g ++ padding params)
 padded_front params h g = ap (λ l. l ++ padding params) (sym (append_assoc (padding params) h g)) ∙ append_assoc (padding params ++ h) g (padding params)
+
+-- p is q below place n, and from there on it is rest.
+pub record IsFront (n : ℕ) (p q : List Activity) : Type 0 where
+  pub same : (k : ℕ) → k < n → unit_at p k ≡ unit_at q k
+  pub rest : (k : ℕ) → n ≤ k → rests (unit_at p k) ≡ true
+
+pub no_duty : (x : Activity) → rests x ≡ true → works x ≡ true → ⊥
+no_duty x r w = let z : true ≡ false = sym w ∙ (works_is x ∙ ap not r) in cc
+
+-- duty of p is duty of q, and rest of q is rest of p
+pub front_duty : (n : ℕ) (p q : List Activity) → IsFront n p q → (k : ℕ) → works (unit_at p k) ≡ true → works (unit_at q k) ≡ true
+front_duty n p q f k w = elim (cases_lt k n) [
+  | inl l ↦ ap works (sym (f.same k l)) ∙ w
+  | inr l ↦ absurd (no_duty (unit_at p k) (f.rest k l) w)
+]
+
+pub front_rest : (n : ℕ) (p q : List Activity) → IsFront n p q → (k : ℕ) → rests (unit_at q k) ≡ true → rests (unit_at p k) ≡ true
+front_rest n p q f k r = elim (cases_lt k n) [ inl l ↦ ap rests (f.same k l) ∙ r | inr l ↦ f.rest k l ]
+
+-- the padded history of a front is the front of the padded one
+pub padded_is_front : (params : Params) (h g : List Activity) → IsFront (length (padding params ++ h)) (padded params h) (padded params (h ++ g))
+padded_is_front params h g = record {
+  same = λ k l. unit_at-append (padding params ++ h) (padding params) k l
+      ∙ sym (ap (λ p. unit_at p k) (padded_front params h g) ∙ unit_at-append (padding params ++ h) (g ++ padding params) k l);
+  rest = λ k l. ap rests (unit_at-behind (padding params ++ h) (pad_units params) k l);
+}
 
 -- what holds at each place of a padded history holds at each place of that of a front
 pub holds_front : (R : List Activity → ℕ → Type 0) (params : Params) (h g : List Activity) → IsRule R → ((i : ℕ) → R (padded params (h ++ g)) i) → (i : ℕ) → R (padded params h) i
