@@ -32,3 +32,4 @@ pub mod UniqueLaws
 pub mod CountLaws
 pub mod AuFrontLaws
 pub mod LostFrontLaws
+pub mod ExistLaws

@@ -141,75 +141,85 @@ pub const CA_CYCLE_2_RESET: u32 = 4_320;
 pub const CA_WITHOUT_DAY_OFF_LIMIT: u32 = 4_200;
 
 /// The rest before a short start in Australia, in quarters of an hour: any rest (Heavy Vehicle
-/// (Fatigue Management) National Regulation, Schedule 1, standard hours, solo; so for the numbers
-/// below too).
+/// (Fatigue Management) National Regulation, Schedule 1).
 pub const AU_SHORT_START: u32 = 1;
 
-/// The rest before a long start in Australia, in quarters of an hour: seven hours.
+/// The rest before a long start in Australia, in quarters of an hour: seven hours (Heavy Vehicle
+/// (Fatigue Management) National Regulation, Schedule 1).
 pub const AU_LONG_START: u32 = 28;
 
-/// The period of five and a half hours in Australia, in quarters of an hour.
+/// The period of five and a half hours in Australia, in quarters of an hour (Heavy Vehicle
+/// (Fatigue Management) National Regulation, Schedule 1).
 pub const AU_5H30_PERIOD: u32 = 22;
 
-/// The greatest duty in a period of five and a half hours in Australia, in quarters of an hour: five
-/// and a quarter hours.
+/// The greatest duty in a period of five and a half hours in Australia, in quarters of an hour:
+/// five and a quarter hours (Heavy Vehicle (Fatigue Management) National Regulation, Schedule 1).
 pub const AU_5H30_DUTY: u32 = 21;
 
-/// The period of eight hours in Australia, in quarters of an hour.
+/// The period of eight hours in Australia, in quarters of an hour (Heavy Vehicle (Fatigue
+/// Management) National Regulation, Schedule 1).
 pub const AU_8H_PERIOD: u32 = 32;
 
 /// The greatest duty in a period of eight hours in Australia, in quarters of an hour: seven and a
-/// half hours.
+/// half hours (Heavy Vehicle (Fatigue Management) National Regulation, Schedule 1).
 pub const AU_8H_DUTY: u32 = 30;
 
-/// The period of eleven hours in Australia, in quarters of an hour.
+/// The period of eleven hours in Australia, in quarters of an hour (Heavy Vehicle (Fatigue
+/// Management) National Regulation, Schedule 1).
 pub const AU_11H_PERIOD: u32 = 44;
 
-/// The greatest duty in a period of eleven hours in Australia, in quarters of an hour: ten hours.
+/// The greatest duty in a period of eleven hours in Australia, in quarters of an hour: ten hours
+/// (Heavy Vehicle (Fatigue Management) National Regulation, Schedule 1).
 pub const AU_11H_DUTY: u32 = 40;
 
-/// The period of twenty-four hours in Australia, in quarters of an hour.
+/// The period of twenty-four hours in Australia, in quarters of an hour (Heavy Vehicle (Fatigue
+/// Management) National Regulation, Schedule 1).
 pub const AU_24H_PERIOD: u32 = 96;
 
 /// The greatest duty in a period of twenty-four hours in Australia, in quarters of an hour: twelve
-/// hours.
+/// hours (Heavy Vehicle (Fatigue Management) National Regulation, Schedule 1).
 pub const AU_24H_DUTY: u32 = 48;
 
-/// The consecutive rest in a period of twenty-four hours in Australia, in quarters of an hour: seven
-/// hours.
+/// The consecutive rest in a period of twenty-four hours in Australia, in quarters of an hour:
+/// seven hours (Heavy Vehicle (Fatigue Management) National Regulation, Schedule 1).
 pub const AU_24H_REST: u32 = 28;
 
-/// The period of seven days in Australia, in quarters of an hour.
+/// The period of seven days in Australia, in quarters of an hour (Heavy Vehicle (Fatigue
+/// Management) National Regulation, Schedule 1).
 pub const AU_7D_PERIOD: u32 = 672;
 
 /// The greatest duty in a period of seven days in Australia, in quarters of an hour: seventy-two
-/// hours.
+/// hours (Heavy Vehicle (Fatigue Management) National Regulation, Schedule 1).
 pub const AU_7D_DUTY: u32 = 288;
 
-/// The consecutive rest in a period of seven days in Australia, in quarters of an hour: twenty-four
-/// hours.
+/// The consecutive rest in a period of seven days in Australia, in quarters of an hour: twenty-
+/// four hours (Heavy Vehicle (Fatigue Management) National Regulation, Schedule 1).
 pub const AU_7D_REST: u32 = 96;
 
-/// The period of fourteen days in Australia, in quarters of an hour.
+/// The period of fourteen days in Australia, in quarters of an hour (Heavy Vehicle (Fatigue
+/// Management) National Regulation, Schedule 1).
 pub const AU_14D_PERIOD: u32 = 1_344;
 
 /// The greatest duty in a period of fourteen days in Australia, in quarters of an hour: a hundred
-/// and forty-four hours.
+/// and forty-four hours (Heavy Vehicle (Fatigue Management) National Regulation, Schedule 1).
 pub const AU_14D_DUTY: u32 = 576;
 
-/// The least number of nights with a break in a period of fourteen days in Australia.
+/// The least number of nights with a break in a period of fourteen days in Australia (Heavy
+/// Vehicle (Fatigue Management) National Regulation, Schedule 1).
 pub const AU_14D_NIGHTS: u32 = 4;
 
-/// The part of a night before its midnight in Australia, in quarters of an hour: from 22:00 on.
+/// The part of a night before its midnight in Australia, in quarters of an hour: from 22:00 on
+/// (Heavy Vehicle (Fatigue Management) National Regulation, Schedule 1).
 pub const AU_NIGHT_BEFORE: u32 = 8;
 
-/// The part of a night after its midnight in Australia, in quarters of an hour: up to 08:00.
+/// The part of a night after its midnight in Australia, in quarters of an hour: up to 08:00 (Heavy
+/// Vehicle (Fatigue Management) National Regulation, Schedule 1).
 pub const AU_NIGHT_AFTER: u32 = 32;
 
 /// The consecutive rest inside a night that is a break in Australia, in quarters of an hour: seven
-/// hours.
+/// hours (Heavy Vehicle (Fatigue Management) National Regulation, Schedule 1).
 pub const AU_NIGHT_REST: u32 = 28;
 
 /// The consecutive rest over a night's midnight that is a break in Australia, in quarters of an
-/// hour: twenty-four hours.
+/// hour: twenty-four hours (Heavy Vehicle (Fatigue Management) National Regulation, Schedule 1).
 pub const AU_NIGHT_LONG_REST: u32 = 96;
