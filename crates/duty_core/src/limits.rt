@@ -73,8 +73,8 @@ pub const CA_SHIFT_DRIVING_LIMIT: u32 = 780;
 /// hours (SOR/2005-313, subsection 13(2)).
 pub const CA_SHIFT_DUTY_LIMIT: u32 = 840;
 
-/// The greatest time since the base at which a driver may drive in Canada, in minutes: sixteen hours
-/// (SOR/2005-313, subsection 13(3)).
+/// The greatest time since the base at which a driver may drive in Canada, in minutes: sixteen
+/// hours (SOR/2005-313, subsection 13(3)).
 pub const CA_ELAPSED_LIMIT: u32 = 960;
 
 /// The least length of a rest that counts towards a day's ten hours of rest in Canada, in minutes
@@ -89,8 +89,8 @@ pub const CA_LOST_LIMIT: u32 = 840;
 /// are deferred (SOR/2005-313, section 16).
 pub const CA_DEFERRED_LOST_LIMIT: u32 = 960;
 
-/// The greatest number of lost minutes of the two days of a deferral in Canada: all but twenty hours
-/// (SOR/2005-313, section 16).
+/// The greatest number of lost minutes of the two days of a deferral in Canada: all but twenty
+/// hours (SOR/2005-313, section 16).
 pub const CA_BOTH_LOST_LIMIT: u32 = 1_680;
 
 /// The least length of a split rest in Canada, in minutes: two hours (SOR/2005-313, section 18).
