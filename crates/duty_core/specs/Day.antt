@@ -1,0 +1,37 @@
+-- The minutes and the days of the places of a padded history, whose history begins at the minute `first`.
+use Rattle.std.specs.Prelude.{◌≡◌, ℕ, ◌+◌, ◌-◌, ◌*◌, ◌/◌, ◌<◌, ◌≤◌, ℤ, pos, ◌+ℤ◌, ◌-ℤ◌}
+use Rattle.std.specs.Int.{int_div_euclid}
+use Rattle.duty_core.specs.declared.params.Params.{Params}
+use Rattle.duty_core.specs.declared.params.Params.TheVariants.{UsProperty, Canada, Hvnl}
+use Rattle.duty_core.specs.declared.limits.TheConstants.{DAY_MINUTES}
+use Rattle.duty_core.specs.Params.{unit_minutes}
+use Rattle.duty_core.specs.History.{pad_days, pad_units}
+
+-- how many minutes after midnight a day of the book begins
+abbrev pub day_start : Params → ℕ
+day_start (UsProperty berth days start) = start
+day_start (Canada berth way cycle start) = start
+day_start Hvnl = 0
+
+-- the civil minute at which place i begins; a place of the padding may lie before year 2000
+abbrev pub minute_at : Params → ℕ → ℕ → ℤ
+minute_at params first i = pos (first + unit_minutes params * i) -ℤ pos (unit_minutes params * pad_units params)
+
+-- the day of place i: its minute less the day's start, divided by the length of a day and rounded down
+abbrev pub day_at : Params → ℕ → ℕ → ℤ
+day_at params first i = int_div_euclid (minute_at params first i -ℤ pos (day_start params)) (pos DAY_MINUTES)
+
+-- The number of a day: the days of the padding and one more are added, so that each place's day has one. Days follow each other as their numbers do.
+abbrev pub IsNumberOfDay : ℤ → ℕ → Type 0
+IsNumberOfDay day n = day +ℤ pos (pad_days + 1) ≡ pos n
+
+-- the number of the day of place i
+abbrev pub day_number : Params → ℕ → ℕ → ℕ
+day_number params first i = (first + unit_minutes params * i + (DAY_MINUTES - day_start params)) / DAY_MINUTES
+
+-- In what follows `day` tells the number of the day of each place.
+
+-- Place d is the first one of the last so many days, the day of place i counted.
+pub record IsFirstOfDays (day : ℕ → ℕ) (days i d : ℕ) : Type 0 where
+  pub inside : day i < day d + days
+  pub first : (k : ℕ) → day i < day k + days → d ≤ k
