@@ -13,6 +13,8 @@ mod layer_list;
 mod path;
 mod plan;
 mod report;
+#[cfg(test)]
+mod tests;
 mod text;
 mod texts;
 mod top;

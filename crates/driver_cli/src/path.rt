@@ -32,6 +32,7 @@ pub fn rebuild<S: Drop>(alloc: Global, layers: &Layers<S>, place: Place) -> Resu
 mod tests {
     use super::*;
     use crate::label::{Kept, Label};
+    use duty_core::Activity;
 
     /// A label of no account but its parent and its activity.
     fn kept(parent: u32, act: Activity) -> Kept<u32>
