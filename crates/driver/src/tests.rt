@@ -17,8 +17,8 @@ const RESTED: &str = "from,to,status\n";
 #[derive(Clone, Copy)]
 struct Given<'a> {
     words: &'a [&'a str],
-    tour: &'a str,
-    log: &'a str,
+    tour: &'a [u8],
+    log: &'a [u8],
     failing_fetch: Option<u32>,
     failing_send: Option<u32>,
 }
@@ -27,8 +27,8 @@ impl<'a> Given<'a> {
     fn new(words: &'a [&'a str], tour: &'a str, log: &'a str) -> Given<'a> {
         Given {
             words,
-            tour,
-            log,
+            tour: tour.as_bytes(),
+            log: log.as_bytes(),
             failing_fetch: None,
             failing_send: None,
         }
@@ -52,8 +52,8 @@ fn stop(alloc: Global, drive: u32, service: u32, from: &str, to: &str) -> Result
 /// How the call ends, and all that it sends.
 fn answer(alloc: Global, given: Given) -> Result<(Status, Vec<u8>), NoMemory> {
     let mut desk = MemoryDesk::new(alloc);
-    desk.hold(&Word::new(alloc, "tour.json")?, given.tour.as_bytes())?;
-    desk.hold(&Word::new(alloc, "log.csv")?, given.log.as_bytes())?;
+    desk.hold(&Word::new(alloc, "tour.json")?, given.tour)?;
+    desk.hold(&Word::new(alloc, "log.csv")?, given.log)?;
     if let Some(number) = given.failing_fetch {
         desk.fail_fetch(number)?;
     }
@@ -134,6 +134,122 @@ fn refuses_tours(rt: HostRuntime) -> Result<(), Fail> {
     let (ended, sent) = answer(alloc, Given::new(&PLAN, grid.as_str(), RESTED))?;
     assert_eq!(rt; ended, Status::Refused);
     assert_eq!(rt; sent.as_slice(), "tour refused: BadValue grid\n".as_bytes());
+    Ok(())
+}
+
+#[test]
+fn tells_each_fault_of_a_tour(rt: HostRuntime) -> Result<(), Fail> {
+    let alloc = rt.alloc();
+    let mut many = String::from_str(alloc, "0")?;
+    for _ in 0..64 {
+        many.push_str(",0")?;
+    }
+    let many = tour_of(alloc, many.as_str())?;
+    let no_object = tour_of(alloc, "7")?;
+    let no_service = tour_of(alloc, r#"{"name":"A","drive":0,"windows":[]}"#)?;
+    let unknown = tour_of(
+        alloc,
+        r#"{"name":"","drive":0,"service":0,"windows":[],"größe":1}"#,
+    )?;
+    let bad_drive = tour_of(
+        alloc,
+        r#"{"name":"A","drive":30.0,"service":0,"windows":[]}"#,
+    )?;
+    let unknown_field = r#"{"book":"hvnl","grid":7,"start":"","stops":0,"zone":1}"#;
+    let cases = [
+        ("[]", "tour refused: NotJson\n"),
+        (r#"{"book":"eu"}"#, "tour refused: BadValue book\n"),
+        (
+            r#"{"book":"us","grid":30}"#,
+            "tour refused: Missing start\n",
+        ),
+        (unknown_field, "tour refused: Unknown zone\n"),
+        (many.as_str(), "tour refused: TooManyStops\n"),
+        (no_object.as_str(), "tour refused: BadValue stops stop 1\n"),
+        (
+            no_service.as_str(),
+            "tour refused: Missing service stop 1\n",
+        ),
+        (unknown.as_str(), "tour refused: Unknown gr????e stop 1\n"),
+        (bad_drive.as_str(), "tour refused: BadValue drive stop 1\n"),
+    ];
+    for (tour, text) in cases {
+        let (ended, sent) = answer(alloc, Given::new(&PLAN, tour, RESTED))?;
+        assert_eq!(rt; ended, Status::Refused, "where {text} is sent");
+        assert_eq!(rt; sent.as_slice(), text.as_bytes());
+    }
+    Ok(())
+}
+
+#[test]
+fn tells_each_fault_of_a_log(rt: HostRuntime) -> Result<(), Fail> {
+    let alloc = rt.alloc();
+    let good = stop(alloc, 240, 60, "2026-03-02T06:00", "2026-03-02T10:00")?;
+    let tour = tour_of(alloc, good.as_str())?;
+    let cases = [
+        ("from,to", "log refused: BadHeader\n"),
+        ("from,to,status\nD,D", "log refused: NotCsv 1\n"),
+        (
+            "from,to,status\n2026-03-02T04:00,2026-02-29T06:00,D",
+            "log refused: BadTime 1\n",
+        ),
+        (
+            "from,to,status\n2026-03-02T04:00,2026-03-02T06:00,WORK",
+            "log refused: BadStatus 1\n",
+        ),
+        (
+            "from,to,status\n2026-03-02T06:00,2026-03-02T06:00,D",
+            "log refused: Empty 1\n",
+        ),
+        (
+            "from,to,status\n2026-03-02T05:00,2026-03-02T06:00,D\n2026-03-02T04:00,2026-03-02T05:00,D",
+            "log refused: Gap 2\n",
+        ),
+        (
+            "from,to,status\n2026-02-09T05:59,2026-03-02T06:00,OFF",
+            "log refused: TooLong 1\n",
+        ),
+        (
+            "from,to,status\n2026-03-02T04:00,2026-03-02T05:00,OFF",
+            "log refused: EndsElsewhere\n",
+        ),
+    ];
+    for (log, text) in cases {
+        let (ended, sent) = answer(alloc, Given::new(&PLAN, tour.as_str(), log))?;
+        assert_eq!(rt; ended, Status::Refused, "where {text} is sent");
+        assert_eq!(rt; sent.as_slice(), text.as_bytes());
+    }
+    Ok(())
+}
+
+#[test]
+fn refuses_other_bytes(rt: HostRuntime) -> Result<(), Fail> {
+    let alloc = rt.alloc();
+    let good = stop(alloc, 240, 60, "2026-03-02T06:00", "2026-03-02T10:00")?;
+    let tour = tour_of(alloc, good.as_str())?;
+    let long_tour = vec![in alloc; b' '; 1_000_001]?;
+    let given = Given {
+        tour: &long_tour,
+        ..Given::new(&PLAN, "", RESTED)
+    };
+    let (ended, sent) = answer(alloc, given)?;
+    assert_eq!(rt; ended, Status::Refused);
+    assert_eq!(rt; sent.as_slice(), "tour refused: TooBig\n".as_bytes());
+    let long_log = vec![in alloc; b'\n'; 4_000_001]?;
+    let given = Given {
+        log: &long_log,
+        ..Given::new(&PLAN, tour.as_str(), "")
+    };
+    let (ended, sent) = answer(alloc, given)?;
+    assert_eq!(rt; ended, Status::Refused);
+    assert_eq!(rt; sent.as_slice(), "log refused: TooBig\n".as_bytes());
+    let given = Given {
+        log: b"from,to,status\n\xff,2026-03-02T06:00,D\n",
+        ..Given::new(&PLAN, tour.as_str(), "")
+    };
+    let (ended, sent) = answer(alloc, given)?;
+    assert_eq!(rt; ended, Status::Refused);
+    assert_eq!(rt; sent.as_slice(), "log refused: BadTime 1\n".as_bytes());
     Ok(())
 }
 
