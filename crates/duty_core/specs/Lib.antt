@@ -22,6 +22,7 @@ pub mod CaCycle
 pub mod AuPeriods
 pub mod AuNights
 pub mod RuleBooks
+pub mod RuleNames
 pub mod Implies
 pub mod PlainlyBetter
 pub mod DayLaws
