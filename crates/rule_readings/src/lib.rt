@@ -1,0 +1,4 @@
+//! Which rules of a book a history keeps with its marks, and what each rule counts at a place.
+#![tactic(auto)]
+
+mod padded;
