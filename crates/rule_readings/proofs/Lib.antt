@@ -1,2 +1,4 @@
 pub mod Counts
 pub mod RestRuns
+pub mod DeclaredRuns
+pub mod BaseLaws

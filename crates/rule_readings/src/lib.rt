@@ -1,4 +1,6 @@
 //! Which rules of a book a history keeps with its marks, and what each rule counts at a place.
 #![tactic(auto)]
 
+mod base;
+mod declared;
 mod padded;
