@@ -2,3 +2,4 @@ pub mod Counts
 pub mod RestRuns
 pub mod DeclaredRuns
 pub mod BaseLaws
+pub mod PairRuns

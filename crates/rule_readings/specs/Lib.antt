@@ -1,3 +1,4 @@
 pub mod Padded
 pub mod Found
 pub mod BaseFound
+pub mod Pairs

@@ -4,3 +4,4 @@
 mod base;
 mod declared;
 mod padded;
+mod pairs;
