@@ -3,3 +3,4 @@ pub mod RestRuns
 pub mod DeclaredRuns
 pub mod BaseLaws
 pub mod PairRuns
+pub mod DayBases

@@ -2,3 +2,4 @@ pub mod Padded
 pub mod Found
 pub mod BaseFound
 pub mod Pairs
+pub mod EndFound

@@ -2,6 +2,7 @@
 #![tactic(auto)]
 
 mod base;
+mod days;
 mod declared;
 mod padded;
 mod pairs;
