@@ -4,3 +4,4 @@ pub mod DeclaredRuns
 pub mod BaseLaws
 pub mod PairRuns
 pub mod DayBases
+pub mod UsPlaces

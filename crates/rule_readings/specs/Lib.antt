@@ -3,3 +3,5 @@ pub mod Found
 pub mod BaseFound
 pub mod Pairs
 pub mod EndFound
+pub mod Count
+pub mod UsCounts

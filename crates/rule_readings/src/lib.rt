@@ -6,3 +6,4 @@ mod days;
 mod declared;
 mod padded;
 mod pairs;
+mod us;
