@@ -1,0 +1,5 @@
+pub mod Padded
+pub mod CaHistory
+pub mod CaCounts
+pub mod CaDays
+pub mod Lost
