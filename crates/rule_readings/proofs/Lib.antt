@@ -1,1 +1,5 @@
 pub mod LostFacts
+pub mod LastEnds
+pub mod DayFacts
+pub mod Counts
+pub mod RestRuns

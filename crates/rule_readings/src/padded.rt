@@ -1,5 +1,5 @@
 //! A history as the rules see it: long rest before and behind.
-ghost use Rattle.std.specs.Prelude.{◌≡◌, ℕ, ◌+◌, ◌≤◌, ◌++◌, length, replicate, IfOk, OnOk, OnErr};
+ghost use Rattle.std.specs.Prelude.{◌≡◌, ℕ, ◌+◌, ◌*◌, ◌≤◌, ◌++◌, length, replicate, IfOk, OnOk, OnErr};
 ghost use Rattle.duty_core.specs.declared.activity.Activity.TheVariants.{Off};
 ghost use Rattle.duty_core.specs.History.{pad_units, padded, unit_at};
 ghost use Rattle.duty_core.specs.Counting.{driving, duty};
