@@ -1,5 +1,9 @@
 pub mod LostFacts
 pub mod LastEnds
 pub mod DayFacts
+pub mod HeldRuns
+pub mod CaPlaces
 pub mod Counts
 pub mod RestRuns
+pub mod BaseLaws
+pub mod DeclaredRuns

@@ -7,12 +7,15 @@ ghost use Rattle.duty_core.specs.CaCycle.{cycle_days, cycle_reset, cycle_limit};
 ghost use Rattle.duty_core.specs.RuleBooks.{cycle_of};
 ghost use Rattle.rule_readings.specs.CaHistory.{IsByMinutes};
 ghost use Rattle.rule_readings.specs.CaDays.{EndsBy};
+ghost use Rattle.rule_readings.specs.CaCounts.{IsCount, IsSinceDayOff, IsCycleDuty, IsDutySinceDayOff};
+ghost use Rattle.duty_core.specs.declared.activity.Activity.TheVariants.{Drive};
+ghost use Rattle.duty_core.specs.History.{unit_at};
 
 use crate::ca_day::first_of_days;
 use crate::padded::{Padded, RestRun};
 use duty_core::{
-    CA_CYCLE_1, CA_CYCLE_1_DAYS, CA_CYCLE_1_LIMIT, CA_CYCLE_1_RESET, CA_CYCLE_2_DAYS,
-    CA_CYCLE_2_LIMIT, CA_CYCLE_2_RESET, Minute, Params,
+    CA_CYCLE_1, CA_CYCLE_1_DAYS, CA_CYCLE_1_LIMIT, CA_CYCLE_1_RESET, CA_CYCLE_2, CA_CYCLE_2_DAYS,
+    CA_CYCLE_2_LIMIT, CA_CYCLE_2_RESET, CA_DAY_OFF, Minute, Params,
 };
 
 /// Where the last rest run of at least `least` minutes ended that ended at place `i` or before.
@@ -102,5 +105,50 @@ pub(crate) fn limit_of(cycle: u32) -> u32
         CA_CYCLE_1_LIMIT
     } else {
         CA_CYCLE_2_LIMIT
+    }
+}
+
+/// How far back from place `i`, at which there is driving, one has to look for 24 hours of rest, in
+/// minutes. None where none has ended.
+pub(crate) fn since_day_off(padded: &Padded, i: u32) -> Option<u32>
+    requires inside { i < length padded.now }
+    requires drive { unit_at padded.now i ≡ Drive }
+    ensures { IsCount (IsSinceDayOff padded.now i) result }
+{
+    let _places = padded.len();
+    match last_end(padded, CA_DAY_OFF, i) {
+        Some(end) => Some(i - end + CA_DAY_OFF),
+        None => None,
+    }
+}
+
+/// The duty in the days of the cycle up to place `i`, at which there is driving, and with it, since
+/// the last reset.
+pub(crate) fn cycle_duty(padded: &Padded, params: Params, first: Minute, i: u32) -> u32
+    requires minutes { IsByMinutes params first }
+    requires inside { i < length padded.now }
+    requires drive { unit_at padded.now i ≡ Drive }
+    ensures { IsCycleDuty (cycle_of params) (day_number params first) padded.now i result }
+{
+    let _places = padded.len();
+    let cycle = cycle(params);
+    let base = days_base(padded, params, first, days_of(cycle), reset_of(cycle), i);
+    padded.duty(base, i + 1)
+}
+
+/// In cycle 2, the duty up to place `i`, at which there is driving, and with it, since the last rest
+/// run of at least 24 hours. None in cycle 1, and where no such run has ended.
+pub(crate) fn duty_since_day_off(padded: &Padded, params: Params, i: u32) -> Option<u32>
+    requires inside { i < length padded.now }
+    requires drive { unit_at padded.now i ≡ Drive }
+    ensures { IsCount (IsDutySinceDayOff (cycle_of params) padded.now i) result }
+{
+    let _places = padded.len();
+    if cycle(params) != CA_CYCLE_2 {
+        return None;
+    }
+    match last_end(padded, CA_DAY_OFF, i) {
+        Some(end) => Some(padded.duty(end, i + 1)),
+        None => None,
     }
 }

@@ -1,9 +1,13 @@
 //! Which rules of a book a history breaks.
 #![tactic(auto)]
 
+mod base;
 mod ca;
 mod ca_cycle;
 mod ca_day;
+mod ca_shift;
+mod declared;
 mod deferral;
 mod lost;
 mod padded;
+mod pairs;

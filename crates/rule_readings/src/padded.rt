@@ -106,7 +106,8 @@ impl Padded {
 
     /// The rest runs that have ended, each once, in order.
     pub fn rest_runs(&self) -> &[RestRun]
-        ensures { AreRestRuns self.now result.now }
+        ensures runs { AreRestRuns self.now result.now }
+        ensures bound { length self.now ≤ LONGEST_PADDED }
     {
         &self.rests
     }
