@@ -7,3 +7,5 @@ pub mod Counts
 pub mod RestRuns
 pub mod BaseLaws
 pub mod DeclaredRuns
+pub mod DayNumbers
+pub mod RestInDay

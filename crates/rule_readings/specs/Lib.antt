@@ -6,3 +6,4 @@ pub mod CaCounts
 pub mod CaDays
 pub mod Lost
 pub mod Pairs
+pub mod Deferring

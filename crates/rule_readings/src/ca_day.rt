@@ -11,6 +11,9 @@ ghost use Rattle.rule_readings.specs.CaCounts.{IsDayDriving, IsDayDuty};
 use crate::padded::Padded;
 use duty_core::{DAY_MINUTES, Minute, Params};
 
+/// A number that no day of a history has.
+pub(crate) const DAY_LIMIT: u32 = 150_000;
+
 /// The number of minutes after midnight at which a day begins.
 fn start_of(params: Params) -> u32
     ensures { result ≡ day_start params }

@@ -7,6 +7,7 @@ ghost use Rattle.duty_core.specs.LostMinutes.{rest_before, rest_from, is_lost, l
 ghost use Rattle.duty_core.specs.declared.limits.TheConstants.{CA_BLOCK_LEAST};
 ghost use Rattle.rule_readings.specs.CaHistory.{IsByMinutes};
 ghost use Rattle.rule_readings.specs.Lost.{AreLostCounts};
+ghost use Rattle.rule_readings.specs.declared.padded.TheConstants.{LONGEST_PADDED};
 
 use crate::ca_day::day_begin;
 use crate::padded::Padded;
@@ -59,7 +60,8 @@ impl LostMinutes {
         requires counts { AreLostCounts padded.now self.now }
         requires minutes { IsByMinutes params first }
         requires small { number < 1000000 }
-        ensures { result ≡ lost (day_number params first) padded.now number }
+        ensures value { result ≡ lost (day_number params first) padded.now number }
+        ensures bound { result ≤ LONGEST_PADDED }
     {
         let from = day_begin(params, first, number).min(padded.len());
         let to = day_begin(params, first, number + 1).min(padded.len());

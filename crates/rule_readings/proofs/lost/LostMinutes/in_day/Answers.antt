@@ -1,10 +1,10 @@
-use Rattle.std.proofs.Common.{◌≡◌, ◌+◌, ap, ◌∙◌, sym, subst, arith}
+use Rattle.std.proofs.Common.{◌≡◌, ◌+◌, ◌≤◌, ap, ◌∙◌, sym, subst, arith}
 use Rattle.std.specs.Prelude.{slice_index, length, min}
 use Rattle.std.proofs.lemmas.List.{get_or_read}
 use Rattle.duty_core.specs.Day.{day_number}
-use Rattle.duty_core.specs.LostMinutes.{lost}
+use Rattle.duty_core.specs.LostMinutes.{is_lost, lost}
 use Rattle.rule_readings.specs.Lost.{AreLostCounts}
-use Rattle.rule_readings.proofs.LostFacts.{day_lost}
+use Rattle.rule_readings.proofs.LostFacts.{day_lost, places_small}
 use Rattle.rule_readings.proofs.lost.LostMinutes.in_day.Goals as goal
 
 -- the lost minutes of the day and those before it are those before the next day
@@ -26,5 +26,20 @@ difference c =
 pub overflow_sub-result : goal.overflow_sub-result
 overflow_sub-result c = let h = difference c in omega arith
 
-pub returns : goal.returns
-returns c = let h = difference c in omega arith
+pub returns-clause-value : goal.returns-clause-value
+returns-clause-value c = let h = difference c in omega arith
+
+pub returns-clause-bound : goal.returns-clause-bound
+returns-clause-bound c =
+    let p = c.args.padded.now in
+    let counts = c.self.inside.counts.items in
+    let k : AreLostCounts p counts = subst (λ xs. AreLostCounts p xs) (sym c.self.view_is) c.requires.counts in
+    let b = c.min-to.result in
+    let o = c.len-2.ensures.value in
+    let z = c.len-2.ensures.bound in
+    let m = k.many in
+    let l : b ≤ length p = omega arith in
+    let y : c.index.result.now ≡ slice_index counts b = get_or_read counts _ _ (omega arith) c.index.ensures 0 in
+    let e = k.each b l in
+    let s = places_small (is_lost p) b in
+    omega arith
