@@ -9,3 +9,6 @@ pub mod BaseLaws
 pub mod DeclaredRuns
 pub mod DayNumbers
 pub mod RestInDay
+pub mod DayBases
+pub mod PairRuns
+pub mod SplitFacts

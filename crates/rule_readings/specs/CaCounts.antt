@@ -163,3 +163,31 @@ ca_limit params Au7d = 0
 ca_limit params Au7dRest = 0
 ca_limit params Au14d = 0
 ca_limit params Au14dNights = 0
+
+-- the rule is one of Canada
+abbrev pub IsCaRule : Rule → Type 0
+IsCaRule UsWindow14 = ⊥
+IsCaRule UsDrive11 = ⊥
+IsCaRule UsBreak8 = ⊥
+IsCaRule UsWeek = ⊥
+IsCaRule UsPair = ⊥
+IsCaRule CaDay13 = Unit {0}
+IsCaRule CaDay14 = Unit {0}
+IsCaRule CaShift13 = Unit {0}
+IsCaRule CaShift14 = Unit {0}
+IsCaRule CaElapsed16 = Unit {0}
+IsCaRule CaOff10 = Unit {0}
+IsCaRule CaDefer = Unit {0}
+IsCaRule CaPair = Unit {0}
+IsCaRule Ca24in14 = Unit {0}
+IsCaRule CaCycle = Unit {0}
+IsCaRule Ca70without24 = Unit {0}
+IsCaRule Au5h30 = ⊥
+IsCaRule Au8h = ⊥
+IsCaRule Au11h = ⊥
+IsCaRule Au24h = ⊥
+IsCaRule Au24hRest = ⊥
+IsCaRule Au7d = ⊥
+IsCaRule Au7dRest = ⊥
+IsCaRule Au14d = ⊥
+IsCaRule Au14dNights = ⊥

@@ -7,3 +7,5 @@ pub mod CaDays
 pub mod Lost
 pub mod Pairs
 pub mod Deferring
+pub mod EndFound
+pub mod CaSplits

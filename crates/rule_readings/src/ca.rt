@@ -5,17 +5,21 @@ ghost use Rattle.duty_core.specs.declared.activity.Activity.TheVariants.{Drive};
 ghost use Rattle.duty_core.specs.History.{unit_at};
 ghost use Rattle.duty_core.specs.RuleBooks.{KeepsPadded};
 ghost use Rattle.rule_readings.specs.CaHistory.{IsByMinutes, IsPadded};
-ghost use Rattle.rule_readings.specs.CaCounts.{IsCount, IsCaCount, IsCaPlaceRule, ca_limit};
+ghost use Rattle.rule_readings.specs.CaCounts.{IsCount, IsCaCount, IsCaPlaceRule, IsCaRule, ca_limit};
 
 use crate::ca_cycle::{cycle, cycle_duty, duty_since_day_off, limit_of, since_day_off};
 use crate::ca_day::{day_driving, day_duty};
+use crate::ca_pair::keeps_pair;
 use crate::ca_shift::{shift_driving, shift_duty, shift_time};
+use crate::deferral::{keeps_defer, keeps_off10};
+use crate::lost::LostMinutes;
 use crate::padded::Padded;
 use duty_core::{
     Activity, CA_DAY_DRIVING_LIMIT, CA_DAY_DUTY_LIMIT, CA_DAY_OFF_WITHIN, CA_ELAPSED_LIMIT,
-    CA_SHIFT_DRIVING_LIMIT, CA_SHIFT_DUTY_LIMIT, CA_WITHOUT_DAY_OFF_LIMIT, Marks, Minute, Params,
-    Rule,
+    CA_SHIFT_DRIVING_LIMIT, CA_SHIFT_DUTY_LIMIT, CA_WITHOUT_DAY_OFF_LIMIT, Marks, Minute, NoMemory,
+    Params, Rule,
 };
+use std::alloc::Global;
 
 /// What the rule counts at place `i`, in minutes. None where it counts nothing there: without
 /// driving, and where the rule is none that is asked at places in Canada.
@@ -111,4 +115,33 @@ fn keeps_at_places(
         }
     }
     true
+}
+
+/// Whether the history keeps a rule of Canada with these marks. `NoMemory` if there is none for the
+/// lost minutes.
+pub(crate) fn keeps_ca(
+    alloc: Global,
+    padded: &Padded,
+    params: Params,
+    first: Minute,
+    marks: &Marks,
+    rule: Rule,
+) -> Result<bool, NoMemory>
+    requires minutes { IsByMinutes params first }
+    requires padded { IsPadded params padded.now }
+    requires book { IsCaRule rule }
+    ensures { IfOk result (λ kept. IsTrue kept ↔ KeepsPadded params first padded.now marks.now rule) }
+{
+    match rule {
+        Rule::CaOff10 => {
+            let lost = LostMinutes::new(alloc, padded)?;
+            Ok(keeps_off10(padded, &lost, params, first, marks))
+        }
+        Rule::CaDefer => {
+            let lost = LostMinutes::new(alloc, padded)?;
+            Ok(keeps_defer(padded, &lost, params, first, marks))
+        }
+        Rule::CaPair => Ok(keeps_pair(padded, params, first, marks)),
+        _ => Ok(keeps_at_places(padded, params, first, marks, rule)),
+    }
 }

@@ -5,6 +5,7 @@ mod base;
 mod ca;
 mod ca_cycle;
 mod ca_day;
+mod ca_pair;
 mod ca_shift;
 mod declared;
 mod deferral;

@@ -1,5 +1,5 @@
 //! Pairs of rests: a split rest, and the declared rest behind it.
-ghost use Rattle.std.specs.Prelude.{◌≡◌, ℕ, ◌≤◌, ◌↔◌, IsTrue};
+ghost use Rattle.std.specs.Prelude.{◌≡◌, ℕ, ◌≤◌, ◌↔◌, IsTrue, length};
 ghost use Rattle.duty_core.specs.declared.activity.Activity.TheVariants.{Berth};
 ghost use Rattle.duty_core.specs.declared.limits.TheConstants.{MINUTE_LIMIT};
 ghost use Rattle.duty_core.specs.Params.{has_berth};
@@ -98,6 +98,7 @@ fn pairs_with_last(
 ) -> bool
     requires early { first ≤ MINUTE_LIMIT }
     requires run { IsRun padded.now next.from next.to }
+    requires bound { length padded.now ≤ LONGEST_PADDED }
     ensures { IsTrue result
         ↔ IsPairedRun terms.full (IsPair terms padded.now) padded.now (IsSplitAt params first marks.now) next.from next.to }
 {
