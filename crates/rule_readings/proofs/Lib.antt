@@ -5,3 +5,11 @@ pub mod BaseLaws
 pub mod PairRuns
 pub mod DayBases
 pub mod UsPlaces
+pub mod LostFacts
+pub mod LastEnds
+pub mod DayFacts
+pub mod HeldRuns
+pub mod CaPlaces
+pub mod DayNumbers
+pub mod RestInDay
+pub mod SplitFacts

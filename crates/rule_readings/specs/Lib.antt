@@ -5,3 +5,9 @@ pub mod Pairs
 pub mod EndFound
 pub mod Count
 pub mod UsCounts
+pub mod CaHistory
+pub mod CaCounts
+pub mod CaDays
+pub mod Lost
+pub mod Deferring
+pub mod CaSplits

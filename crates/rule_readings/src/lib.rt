@@ -2,8 +2,15 @@
 #![tactic(auto)]
 
 mod base;
+mod ca;
+mod ca_cycle;
+mod ca_day;
+mod ca_pair;
+mod ca_shift;
 mod days;
 mod declared;
+mod deferral;
+mod lost;
 mod padded;
 mod pairs;
 mod us;
