@@ -1,0 +1,6 @@
+pub mod Counts
+pub mod RestRuns
+pub mod AuRest
+pub mod AuNightLaws
+pub mod AuNightLoop
+pub mod AuKeepLaws

@@ -1,0 +1,4 @@
+pub mod Padded
+pub mod AuCounts
+pub mod AuNightCounts
+pub mod AuKeeps
