@@ -4,4 +4,6 @@
 mod au;
 mod au_nights;
 mod au_periods;
+#[cfg(test)]
+mod au_tests;
 mod padded;
