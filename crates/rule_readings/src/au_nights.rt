@@ -39,12 +39,19 @@ pub(crate) fn has_break(padded: &Padded, midnight: u32) -> bool
 {
     let begins = midnight.saturating_sub(AU_NIGHT_BEFORE);
     let inside = longest_rest(padded, begins, midnight + AU_NIGHT_AFTER);
-    if inside >= AU_NIGHT_REST {
+    if is_long_inside(inside) {
         return true;
     }
     let before = rest_before(padded, midnight, AU_NIGHT_LONG_REST);
     let after = rest_after(padded, midnight, AU_NIGHT_LONG_REST);
     is_long_across(before, after)
+}
+
+/// Whether so much consecutive rest inside a night is seven hours.
+fn is_long_inside(rest: u32) -> bool
+    ensures { IsTrue result ↔ (AU_NIGHT_REST ≤ rest) }
+{
+    rest >= AU_NIGHT_REST
 }
 
 /// Whether so much rest right before and right after a midnight holds the unit before and the unit
