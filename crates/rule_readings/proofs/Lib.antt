@@ -13,3 +13,7 @@ pub mod CaPlaces
 pub mod DayNumbers
 pub mod RestInDay
 pub mod SplitFacts
+pub mod AuRest
+pub mod AuNightLaws
+pub mod AuNightLoop
+pub mod AuKeepLaws

@@ -11,3 +11,6 @@ pub mod CaDays
 pub mod Lost
 pub mod Deferring
 pub mod CaSplits
+pub mod AuCounts
+pub mod AuNightCounts
+pub mod AuKeeps
