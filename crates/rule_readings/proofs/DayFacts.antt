@@ -1,13 +1,12 @@
 -- From where the duty of so many days is counted.
-use Rattle.std.proofs.Common.{◌≡◌, ℕ, ◌+◌, ◌-◌, ◌*◌, ◌/◌, ◌<◌, ◌≤◌, List, max, ap, subst, sym, arith, inl, inr}
-use Rattle.std.proofs.lemmas.Bool.{cases_lt}
+use Rattle.std.proofs.Common.{◌≡◌, ℕ, ◌<◌, ◌≤◌, List, max, arith}
 use Rattle.std.proofs.Math.Nat.{mul-le-mul_left}
 use Rattle.duty_core.specs.declared.activity.Activity.{Activity}
 use Rattle.duty_core.specs.declared.params.Params.{Params}
 use Rattle.duty_core.specs.Params.{unit_minutes}
-use Rattle.duty_core.specs.Day.{day_start, day_number, IsFirstOfDays}
+use Rattle.duty_core.specs.Day.{day_number, IsFirstOfDays}
 use Rattle.duty_core.specs.RestRun.{IsLongRun}
-use Rattle.duty_core.specs.Counting.{IsLastEnd, CountsInDays, IsDaysBase}
+use Rattle.duty_core.specs.Counting.{IsLastEnd, IsDaysBase}
 
 -- days do not go back
 pub days_rise : (params : Params) (first j k : ℕ) → j ≤ k → day_number params first j ≤ day_number params first k

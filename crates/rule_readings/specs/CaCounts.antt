@@ -1,5 +1,5 @@
 -- What the Canadian rules count at a place of a padded history p, and how much of it each allows. A unit is a minute.
-use Rattle.std.specs.Prelude.{◌≡◌, ℕ, ◌+◌, ◌≤◌, List, Option, Some, None}
+use Rattle.std.specs.Prelude.{◌≡◌, ℕ, ◌+◌, List, Option, Some, None}
 use Rattle.duty_core.specs.declared.activity.Activity.{Activity}
 use Rattle.duty_core.specs.declared.activity.Activity.TheVariants.{Drive}
 use Rattle.duty_core.specs.declared.mark.Mark.{Mark}

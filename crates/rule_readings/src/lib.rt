@@ -7,6 +7,7 @@ mod au_periods;
 #[cfg(test)]
 mod au_tests;
 mod base;
+mod broken_rules;
 mod ca;
 mod ca_cycle;
 mod ca_day;
@@ -18,4 +19,8 @@ mod deferral;
 mod lost;
 mod padded;
 mod pairs;
+mod rules;
 mod us;
+
+pub use broken_rules::broken;
+pub use rules::Rules;
