@@ -33,6 +33,9 @@ pub mod CountLaws
 pub mod AuFrontLaws
 pub mod LostFrontLaws
 pub mod ExistLaws
+pub mod MarkMeaning
 pub mod MarkListLaws
 pub mod FrontLaws
 pub mod BookLaws
+pub mod RestLaws
+pub mod MarkLaws

@@ -1,6 +1,6 @@
 -- Lists of marks: their order leaves one list with the same members, and the marks of a list that pass a fact are a list in order.
 use Rattle.std.proofs.Common.{◌≡◌, ℕ, ◌<◌, List, [], ◌∷◌, length, sym, refl, ◌∙◌, ap, subst, arith, inl, inr, ◌⊎◌, zero, suc, get_or}
-use Rattle.std.specs.Prelude.{◌<ℤ◌, Contains, AllPairs, All}
+use Rattle.std.specs.Prelude.{◌<ℤ◌, Contains, AllPairs}
 use Rattle.std.proofs.lemmas.Int.{ints}
 use Rattle.std.proofs.lemmas.List.Elements.{Contains-get_or}
 use Rattle.std.proofs.lemmas.List.Kept.{AllPairs-cons}
@@ -66,9 +66,9 @@ same_list R way (x ∷ xs) [] g h f b = absurd (no_member x (f x (contains_head 
 same_list R way (x ∷ xs) (y ∷ ys) g h f b =
     let e : x ≡ y = same_head R way x xs y ys g h (f x (contains_head x xs)) (b y (contains_head y ys)) in
     let t : xs ≡ ys =
-        same_list R way xs ys (pairs_tail R x xs g) (pairs_tail R y ys h)
-        (λ z c. same_tail R way x xs y ys g e z c (f z (contains_behind x xs z c)))
-        (λ z c. same_tail R way y ys x xs h (sym e) z c (b z (contains_behind y ys z c))) in
+    same_list R way xs ys (pairs_tail R x xs g) (pairs_tail R y ys h)
+    (λ z c. same_tail R way x xs y ys g e z c (f z (contains_behind x xs z c)))
+    (λ z c. same_tail R way y ys x xs h (sym e) z c (b z (contains_behind y ys z c))) in
     cc
 
 -- # The members of a list of which a fact holds
