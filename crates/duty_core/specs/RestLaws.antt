@@ -31,12 +31,12 @@ abbrev pub IsAllRest : List Activity → Type 0
 IsAllRest p = (k : ℕ) → rests (unit_at p k) ≡ true
 
 -- such a list is the head of itself, none of it needed
-rest_is_head : {p : List Activity} → IsAllRest p → IsHead 0 p p
-rest_is_head h = record { alike = record { fronts = λ k l. refl; units = λ k l. refl }; inside = omega arith; rest = λ k l. h k }
+rest_is_own_head : {p : List Activity} → IsAllRest p → IsHead 0 p p
+rest_is_own_head h = record { alike = record { fronts = λ k l. refl; units = λ k l. refl }; inside = omega arith; rest = λ k l. h k }
 
 -- it has no rest run that has ended
 no_run : {p : List Activity} {a b : ℕ} → IsAllRest p → IsRun p a b → ⊥
-no_run h r = let l = run_before (rest_is_head h) r in absurd (omega arith)
+no_run h r = let l = run_before (rest_is_own_head h) r in absurd (omega arith)
 
 no_start : {p : List Activity} {r i : ℕ} → IsAllRest p → IsStart r p i → ⊥
 no_start {p} {r} {i} h s = no_duty (unit_at p i) (h i) s.works_there
@@ -44,7 +44,7 @@ no_start {p} {r} {i} h s = no_duty (unit_at p i) (h i) s.works_there
 -- and loses no minute
 none_lost : (p : List Activity) → IsAllRest p → (day : ℕ → ℕ) (j : ℕ) → lost day p j ≤ CA_LOST_LIMIT
 none_lost p h day j =
-    let a = places_stop (λ i. nat_eq (day i) j && is_lost p i) 0 (length p) (λ k l. and_false (nat_eq (day k) j) (is_lost p k) (head_kept (rest_is_head h) k l)) in
+    let a = places_stop (λ i. nat_eq (day i) j && is_lost p i) 0 (length p) (λ k l. and_false (nat_eq (day k) j) (is_lost p k) (head_kept (rest_is_own_head h) k l)) in
     omega arith
 
 -- rest alone keeps each rule without marks
