@@ -39,3 +39,4 @@ pub mod FrontLaws
 pub mod BookLaws
 pub mod RestLaws
 pub mod MarkLaws
+pub mod CountBaseLaws

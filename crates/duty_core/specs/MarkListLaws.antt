@@ -14,10 +14,10 @@ use Rattle.duty_core.specs.Marks.{mark_minute, AreInOrder, AreMarks}
 pub no_member : {X : Type 0} (x : X) → Contains [] x → ⊥
 no_member x c = let l = c.1 in absurd (omega arith)
 
-contains_head : {X : Type 0} (x : X) (xs : List X) → Contains (x ∷ xs) x
+pub contains_head : {X : Type 0} (x : X) (xs : List X) → Contains (x ∷ xs) x
 contains_head x xs = (0, omega arith, refl)
 
-contains_behind : {X : Type 0} (x : X) (xs : List X) (y : X) → Contains xs y → Contains (x ∷ xs) y
+pub contains_behind : {X : Type 0} (x : X) (xs : List X) (y : X) → Contains xs y → Contains (x ∷ xs) y
 contains_behind x xs y c = let l = c.1 in (suc c.0, omega arith, c.2)
 
 contains_at : {X : Type 0} (x : X) (xs : List X) (y : X) (k : ℕ) → k < length (x ∷ xs) → get_or (x ∷ xs) k y ≡ y → (x ≡ y) ⊎ Contains xs y
@@ -25,7 +25,7 @@ contains_at x xs y zero l e = inl e
 contains_at x xs y (suc k) l e = inr (k, omega arith, e)
 
 -- a member is the first one or one of the others
-contains_cases : {X : Type 0} (x : X) (xs : List X) (y : X) → Contains (x ∷ xs) y → (x ≡ y) ⊎ Contains xs y
+pub contains_cases : {X : Type 0} (x : X) (xs : List X) (y : X) → Contains (x ∷ xs) y → (x ≡ y) ⊎ Contains xs y
 contains_cases x xs y c = contains_at x xs y c.0 c.1 c.2
 
 -- # Order

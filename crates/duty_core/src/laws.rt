@@ -1,17 +1,20 @@
 //! What holds of every history and its marks, by whole rule books. The functions do nothing: their
 //! clauses are the laws.
-ghost use Rattle.std.specs.Prelude.{◌≡◌, ◌↔◌, ℕ, ℤ, ◌<◌, Bool, true, List, [], ◌++◌, All, Contains};
+ghost use Rattle.std.specs.Prelude.{◌≡◌, ◌↔◌, ℕ, ℤ, ◌<◌, ◌≤◌, Bool, true, List, [], ◌++◌, All, Contains};
 ghost use Rattle.duty_core.specs.declared.activity.Activity.{Activity};
 ghost use Rattle.duty_core.specs.declared.limits.TheConstants.{US_FULL_REST, CA_FULL_REST, CA_LOST_LIMIT};
 ghost use Rattle.duty_core.specs.declared.mark.Mark.{Mark};
 ghost use Rattle.duty_core.specs.declared.params.RestWay.{RestWay};
-ghost use Rattle.duty_core.specs.Activity.{rests};
+ghost use Rattle.duty_core.specs.Activity.{rests, works};
 ghost use Rattle.duty_core.specs.Params.{has_berth};
-ghost use Rattle.duty_core.specs.History.{padded};
+ghost use Rattle.duty_core.specs.History.{unit_at, pad_units, padded};
 ghost use Rattle.duty_core.specs.RestRun.{IsLongRun};
-ghost use Rattle.duty_core.specs.Day.{day_number, IsNumberOfDay};
+ghost use Rattle.duty_core.specs.Day.{day_number, IsNumberOfDay, IsFirstOfDays};
+ghost use Rattle.duty_core.specs.Counting.{IsLastEnd, IsDaysBase};
 ghost use Rattle.duty_core.specs.Marks.{AreInOrder, AreMarks, IsMinuteOf, IsSplitAt};
 ghost use Rattle.duty_core.specs.DeclaredRest.{IsSplitRest};
+ghost use Rattle.duty_core.specs.Base.{IsBase};
+ghost use Rattle.duty_core.specs.UsRules.{IsLastBreak};
 ghost use Rattle.duty_core.specs.LostMinutes.{lost};
 ghost use Rattle.duty_core.specs.Deferral.{IsDeferWay};
 ghost use Rattle.duty_core.specs.MarkMeaning.{NamesRun, IsLostDay, StandsIn};
@@ -105,6 +108,36 @@ pub fn order_fixes_marks(params: Params)
     ensures in_order { (marks : List Mark) → AreMarks params marks → AreInOrder params marks }
     ensures one { (marks others : List Mark) → AreInOrder params marks → AreInOrder params others →
         ((m : Mark) → Contains marks m ↔ Contains others m) → marks ≡ others }
+{
+    let _ = params;
+}
+
+/// Rules that count to a unit of duty count from one place, and there is such a place, so that none
+/// of them is empty: the base, with what elapsed time omits, and the end of the last rest run of a
+/// given length, for each length that the padding has; the last break; and the first unit that
+/// counts of the last days since the last restart.
+pub fn counts_have_one_base(params: Params)
+    ensures base { (full first : ℕ) (h : List Activity) (marks : List Mark) (i : ℕ) → 0 < full → full ≤ pad_units params →
+        works (unit_at (padded params h) i) ≡ true →
+        (base : ℕ) × (omitted : ℕ) × IsBase full (padded params h) (IsSplitAt params first marks) i base omitted }
+    ensures one_base { (full first : ℕ) (p : List Activity) (marks : List Mark) (i base omitted other another : ℕ) →
+        IsBase full p (IsSplitAt params first marks) i base omitted →
+        IsBase full p (IsSplitAt params first marks) i other another → (base ≡ other) × (omitted ≡ another) }
+    ensures last_end { (least : ℕ) (h : List Activity) (i : ℕ) → 0 < least → least ≤ pad_units params →
+        works (unit_at (padded params h) i) ≡ true → (to : ℕ) × IsLastEnd least (padded params h) i to }
+    ensures one_end { (least : ℕ) (p : List Activity) (i to other : ℕ) → IsLastEnd least p i to → IsLastEnd least p i other → to ≡ other }
+    ensures last_break { (h : List Activity) (i : ℕ) → works (unit_at (padded params h) i) ≡ true →
+        (to : ℕ) × IsLastBreak (padded params h) i to }
+    ensures one_break { (p : List Activity) (i to other : ℕ) → IsLastBreak p i to → IsLastBreak p i other → to ≡ other }
+    ensures days { (first days restart : ℕ) (h : List Activity) (i : ℕ) → 0 < days → 0 < restart → restart ≤ pad_units params →
+        works (unit_at (padded params h) i) ≡ true →
+        (from : ℕ) × IsDaysBase (day_number params first) days restart (padded params h) i from }
+    ensures one_days { (first days restart : ℕ) (p : List Activity) (i from other : ℕ) →
+        IsDaysBase (day_number params first) days restart p i from →
+        IsDaysBase (day_number params first) days restart p i other → from ≡ other }
+    ensures first_of_day { (first i : ℕ) → (from : ℕ) × IsFirstOfDays (day_number params first) 1 i from }
+    ensures one_first { (first i from other : ℕ) → IsFirstOfDays (day_number params first) 1 i from →
+        IsFirstOfDays (day_number params first) 1 i other → from ≡ other }
 {
     let _ = params;
 }
