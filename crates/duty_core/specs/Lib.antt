@@ -34,3 +34,10 @@ pub mod CountLaws
 pub mod AuFrontLaws
 pub mod LostFrontLaws
 pub mod ExistLaws
+pub mod MarkMeaning
+pub mod MarkListLaws
+pub mod FrontLaws
+pub mod BookLaws
+pub mod RestLaws
+pub mod MarkLaws
+pub mod CountBaseLaws
