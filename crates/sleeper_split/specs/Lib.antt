@@ -4,3 +4,4 @@ pub mod Alike
 pub mod Growth
 pub mod Tracks
 pub mod Exact
+pub mod TrackLaws
