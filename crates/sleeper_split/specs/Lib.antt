@@ -5,3 +5,4 @@ pub mod Growth
 pub mod Tracks
 pub mod Exact
 pub mod TrackLaws
+pub mod Limits
