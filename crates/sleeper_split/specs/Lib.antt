@@ -6,3 +6,5 @@ pub mod Tracks
 pub mod Exact
 pub mod TrackLaws
 pub mod Limits
+pub mod ChoiceLaws
+pub mod ExactLaws
