@@ -8,3 +8,4 @@ pub mod TrackLaws
 pub mod Limits
 pub mod ChoiceLaws
 pub mod ExactLaws
+pub mod CountryLaws
