@@ -67,7 +67,7 @@ from_increasing n [] least h = tt
 from_increasing n (x ∷ xs) least h = (
   least x (contains_head x xs),
   from_increasing (x + 1) xs (λ a i. let z = All-contains (λ b. x < b) xs a (λ k d l. h 0 (suc k) d (omega arith) (omega arith)) i in omega arith)
-  (λ i j d l k. h (suc i) (suc j) d (omega arith) (omega arith)),
+      (λ i j d l k. h (suc i) (suc j) d (omega arith) (omega arith)),
 )
 
 -- # The run in progress

@@ -9,3 +9,4 @@ pub mod Limits
 pub mod ChoiceLaws
 pub mod ExactLaws
 pub mod CountryLaws
+pub mod Laws

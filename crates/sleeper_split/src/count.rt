@@ -232,6 +232,7 @@ impl SplitCount {
     ) -> Option<SplitCount>
         ensures some { IsSome result ↔ IsSplitCount (made run base last waiting) }
         ensures parts { IfSome result (λ s. s ≡ made run base last waiting) }
+        ensures kept { IfSome result IsSplitCount }
     {
         let behind = run.is_kept() && base.is_kept() && last.is_kept() && run.long <= last.elapsed;
         let later = last.is_within(base) && is_kept(waiting);

@@ -3,7 +3,13 @@
 #![tactic(auto)]
 
 mod count;
+mod laws;
 mod rule;
+#[cfg(test)]
+mod tests;
 
 pub use count::{OpenRun, Since, SplitCount, Used, WaitingRest};
+pub use laws::{
+    is_exact_in_canada, is_exact_in_united_states, is_told_by_places, tells_of_history,
+};
 pub use rule::{BerthRule, SplitRule};
