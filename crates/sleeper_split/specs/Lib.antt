@@ -10,3 +10,5 @@ pub mod ChoiceLaws
 pub mod ExactLaws
 pub mod CountryLaws
 pub mod Laws
+pub mod Covers
+pub mod CoverLaws
