@@ -669,23 +669,23 @@ rest_only berth Drive r l = absurd (let z : false ≡ true = r in cc)
 rest_only berth Serve r l = absurd (let z : false ≡ true = r in cc)
 rest_only berth Wait r l = absurd (let z : false ≡ true = r in cc)
 
-is_none : (w : Option WaitingRest) → waits_none w ≡ true → w ≡ None
-is_none None h = refl
-is_none (Some w) h = absurd (let z : false ≡ true = h in cc)
+pub none_means : (w : Option WaitingRest) → waits_none w ≡ true → w ≡ None
+none_means None h = refl
+none_means (Some w) h = absurd (let z : false ≡ true = h in cc)
 
-none_is : (w : Option WaitingRest) → w ≡ None → waits_none w ≡ true
-none_is w h = subst (λ v. waits_none v ≡ true) (sym h) refl
+pub none_from : (w : Option WaitingRest) → w ≡ None → waits_none w ≡ true
+none_from w h = subst (λ v. waits_none v ≡ true) (sym h) refl
 
 -- where it is safe to rest, either the run is all in the berth, or none waits
 pub ahead_cases : (rule : SplitRule) (may : Bool) (s : SplitCount) → is_ahead rule may s ≡ true → (s.run.stretch ≡ s.run.long) ⊎ ((s.waiting ≡ None) × (is_free rule may rule.berth s ≡ true))
 ahead_cases rule may s h = elim (or_cases (nat_eq s.run.stretch s.run.long) (waits_none s.waiting && is_free rule may rule.berth s) h) [
   | inl e ↦ inl (same s.run.stretch s.run.long e)
-  | inr e ↦ inr (is_none s.waiting (and_left (waits_none s.waiting) (is_free rule may rule.berth s) e), and_right (waits_none s.waiting) (is_free rule may rule.berth s) e)
+  | inr e ↦ inr (none_means s.waiting (and_left (waits_none s.waiting) (is_free rule may rule.berth s) e), and_right (waits_none s.waiting) (is_free rule may rule.berth s) e)
 ]
 
 pub ahead_from : (rule : SplitRule) (may : Bool) (s : SplitCount) → (s.run.stretch ≡ s.run.long) ⊎ ((s.waiting ≡ None) × (is_free rule may rule.berth s ≡ true)) → is_ahead rule may s ≡ true
 ahead_from rule may s (inl e) = or_left (nat_eq s.run.stretch s.run.long) (waits_none s.waiting && is_free rule may rule.berth s) (is_same s.run.stretch s.run.long e)
-ahead_from rule may s (inr e) = or_right (nat_eq s.run.stretch s.run.long) (waits_none s.waiting && is_free rule may rule.berth s) (and_both (waits_none s.waiting) (is_free rule may rule.berth s) (none_is s.waiting e.0) e.1)
+ahead_from rule may s (inr e) = or_right (nat_eq s.run.stretch s.run.long) (waits_none s.waiting && is_free rule may rule.berth s) (and_both (waits_none s.waiting) (is_free rule may rule.berth s) (none_from s.waiting e.0) e.1)
 
 free_never : (rule : SplitRule) (k : BerthRule) (may : Bool) (s : SplitCount) → may ≡ false → is_free rule may k s ≡ true
 free_never rule SevenInOne may s m = refl

@@ -12,3 +12,4 @@ pub mod CountryLaws
 pub mod Laws
 pub mod Covers
 pub mod CoverLaws
+pub mod CoverTests

@@ -3,6 +3,7 @@
 #![tactic(auto)]
 
 mod count;
+mod covers;
 mod laws;
 mod rule;
 #[cfg(test)]
