@@ -1,11 +1,10 @@
 -- The relation between counts is reflexive and transitive, and what it relates goes on so, whatever comes.
-use Rattle.std.proofs.Common.{◌≡◌, ◌↔◌, ℕ, ◌+◌, ◌-◌, ◌<◌, ◌≤◌, Bool, true, false, cond, List, [], ◌∷◌, ◌++◌, refl, sym, ◌∙◌, ap, subst, arith, ◌⊎◌, inl, inr}
-use Rattle.std.specs.Prelude.{Option, None, Some, not, min, max, nat_lt, nat_le, nat_eq, ◌&&◌, ◌||◌, Contains}
+use Rattle.std.proofs.Common.{◌≡◌, ℕ, ◌+◌, ◌<◌, ◌≤◌, Bool, true, false, refl, sym, ◌∙◌, ap, subst, arith, ◌⊎◌, inl, inr}
+use Rattle.std.specs.Prelude.{Option, None, Some, not, max, nat_lt, nat_le, nat_eq, ◌&&◌, ◌||◌, Contains}
 use Rattle.std.proofs.lemmas.Bool.{cases_lt}
-use Rattle.std.proofs.lemmas.Bool.Decides.{nat_tests}
 use Rattle.duty_core.specs.declared.activity.Activity.{Activity}
 use Rattle.duty_core.specs.declared.activity.Activity.TheVariants.{Drive, Serve, Wait, Off, Berth}
-use Rattle.duty_core.specs.declared.limits.TheConstants.{COUNT_LIMIT, PADDING_MINUTES, US_PAIR_BERTH}
+use Rattle.duty_core.specs.declared.limits.TheConstants.{COUNT_LIMIT, US_PAIR_BERTH}
 use Rattle.duty_core.specs.Activity.{rests, drives}
 use Rattle.sleeper_split.specs.declared.rule.BerthRule.{BerthRule}
 use Rattle.sleeper_split.specs.declared.rule.BerthRule.TheVariants.{SevenInOne, AllOfNext}
@@ -14,11 +13,10 @@ use Rattle.sleeper_split.specs.declared.count.Used.{Used}
 use Rattle.sleeper_split.specs.declared.count.OpenRun.{OpenRun}
 use Rattle.sleeper_split.specs.declared.count.WaitingRest.{WaitingRest}
 use Rattle.sleeper_split.specs.declared.count.SplitCount.{SplitCount}
-use Rattle.sleeper_split.specs.Machine.{IsUsed, IsOpenRun, IsWithin, IsWaitingRest, IsSplitCount, made, no_run, none_used, one_more, longer, rested, after_rest, worked, after_duty, has_pair_berth, has_split_berth, may_pair, may_split, without_run, split_count, rested_count, fresh_count}
+use Rattle.sleeper_split.specs.Machine.{IsUsed, IsOpenRun, IsWithin, IsSplitCount, no_run, none_used, one_more, longer, rested, after_rest, worked, after_duty, has_pair_berth, has_split_berth, may_pair, may_split, without_run, split_count, rested_count, fresh_count}
 use Rattle.sleeper_split.specs.Choices.{Choice, choice, sleeps, choices}
 use Rattle.sleeper_split.specs.Limits.{and_left, and_right, and_both, below, upto, same, is_below, is_upto, is_same}
-use Rattle.sleeper_split.specs.ChoiceLaws.{fits, IsAtRest, IsUndeclared, IsAsSplit, IsAsFull, IsChoice, choice_cases, is_choice}
-use Rattle.sleeper_split.specs.Exact.{IsSplitRule}
+use Rattle.sleeper_split.specs.ChoiceLaws.{fits, IsUndeclared, IsAsSplit, IsAsFull, IsChoice, choice_cases, is_choice}
 use Rattle.sleeper_split.specs.Covers.{IsBerthWithin, IsPairRule, WaitsWell, IsCountOf, allowed, own_rest, IsMonotone, IsBerthNoWorse, IsWaitNoWorse, IsDeep, IsNoWorse, IsFresher, as_waiting, IsOwed, IsOwing, Covers, is_free, is_ahead, waits_none}
 
 -- # Tests and counts
@@ -565,12 +563,12 @@ off_without_berth : (berth : Bool) → allowed berth Off ≡ true → berth ≡ 
 off_without_berth true h = absurd (let z : false ≡ true = h in cc)
 off_without_berth false h = refl
 
-never_splits : (may berth : Bool) → (may ≡ true → berth ≡ true) → berth ≡ false → may ≡ false
+pub never_splits : (may berth : Bool) → (may ≡ true → berth ≡ true) → berth ≡ false → may ≡ false
 never_splits true berth mb h = absurd (let z : true ≡ false = sym (mb refl) ∙ h in cc)
 never_splits false berth mb h = refl
 
 -- without a berth nothing waits
-nothing_waits : (rule : SplitRule) (may : Bool) (a : SplitCount) → IsCountOf rule may a → may ≡ false → a.waiting ≡ None
+pub nothing_waits : (rule : SplitRule) (may : Bool) (a : SplitCount) → IsCountOf rule may a → may ≡ false → a.waiting ≡ None
 nothing_waits rule may a va m = elim (waits_cases rule may a.waiting va.waits) [ inl n ↦ n | inr t ↦ absurd (let z : true ≡ false = sym t ∙ m in cc) ]
 
 deep_on : (rule : SplitRule) (may berth : Bool) (a b : SplitCount) (x : Activity) → IsCountOf rule may a → (may ≡ true → berth ≡ true) → allowed berth x ≡ true → rests x ≡ true → IsDeep rule.berth a.run b.run ⊎ ((may ≡ false) × (a.waiting ≡ None)) →
@@ -780,3 +778,20 @@ ahead_covers rule may berth ok s x c good vs mb h l g = elim g [
     | inr u ↦ elim u [ inl k ↦ ahead_split rule may berth ok s x c good vs mb k | inr k ↦ ahead_full rule may berth ok s x c vs mb k ]
   ]
 ]
+
+-- # Of the lists of choices
+
+pub choices_cover : (rule : SplitRule) (may berth : Bool) (ok : SplitCount → Bool) (a b : SplitCount) (x : Activity) (c : Choice) → IsPairRule rule → IsMonotone ok → IsCountOf rule may a → (may ≡ true → berth ≡ true) → allowed berth x ≡ true → Covers rule may a b → Contains (choices rule may ok b x) c →
+    (d : Choice) × Contains (choices rule may ok a x) d × Covers rule may d.count c.count
+choices_cover rule may berth ok a b x c good m va mb l h g = let k = covers_simulates rule may berth ok a b x c good m va mb l h (choice_cases rule may ok b x c good.split.some g) in (k.choice, is_choice rule may ok a x k.choice k.is, k.covers)
+
+pub rest_choice : (rule : SplitRule) (may berth : Bool) (ok : SplitCount → Bool) (s : SplitCount) → Contains (choices rule may ok s (own_rest berth)) (choice (after_rest (sleeps (own_rest berth)) s) false)
+rest_choice rule may berth ok s = is_choice rule may ok s (own_rest berth) (choice (after_rest (sleeps (own_rest berth)) s) false) (inl (record { rest = (own_rests berth).0; is = refl }))
+
+pub choices_ahead : (rule : SplitRule) (may berth : Bool) (ok : SplitCount → Bool) (s : SplitCount) (x : Activity) (c : Choice) → IsPairRule rule → IsCountOf rule may s → (may ≡ true → berth ≡ true) → is_ahead rule may s ≡ true → allowed berth x ≡ true → Contains (choices rule may ok s x) c →
+    (d : Choice) × Contains (choices rule may ok s (own_rest berth)) d × (is_ahead rule may d.count ≡ true) × Covers rule may d.count c.count
+choices_ahead rule may berth ok s x c good vs mb h l g =
+    (choice (after_rest (sleeps (own_rest berth)) s) false, rest_choice rule may berth ok s, ahead_on rule may berth s vs mb h, ahead_covers rule may berth ok s x c good vs mb h l (choice_cases rule may ok s x c good.split.some g))
+
+pub choices_kept : (rule : SplitRule) (may : Bool) (ok : SplitCount → Bool) (s : SplitCount) (x : Activity) (c : Choice) → 0 < rule.full → IsCountOf rule may s → Contains (choices rule may ok s x) c → IsCountOf rule may c.count
+choices_kept rule may ok s x c pos_full vs g = choice_kept rule may ok s x c vs (choice_cases rule may ok s x c pos_full g)

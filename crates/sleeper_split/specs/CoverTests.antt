@@ -1,5 +1,5 @@
 -- The tests of the relation between counts decide it.
-use Rattle.std.proofs.Common.{◌≡◌, ◌↔◌, ℕ, ◌+◌, ◌≤◌, Bool, true, false, refl, sym, ◌∙◌, ap, subst, arith, ◌⊎◌, inl, inr}
+use Rattle.std.proofs.Common.{◌≡◌, ◌↔◌, ◌+◌, Bool, true, false, refl, ap, inl, inr}
 use Rattle.std.specs.Prelude.{Option, None, Some, not, nat_le, nat_eq, ◌&&◌, ◌||◌}
 use Rattle.sleeper_split.specs.declared.rule.BerthRule.{BerthRule}
 use Rattle.sleeper_split.specs.declared.rule.BerthRule.TheVariants.{SevenInOne, AllOfNext}
@@ -10,8 +10,8 @@ use Rattle.sleeper_split.specs.declared.count.WaitingRest.{WaitingRest}
 use Rattle.sleeper_split.specs.declared.count.SplitCount.{SplitCount}
 use Rattle.sleeper_split.specs.Machine.{IsWithin, has_split_berth, may_pair, without_run}
 use Rattle.sleeper_split.specs.Limits.{and_left, and_right, and_both, upto, same, is_upto, is_same}
-use Rattle.sleeper_split.specs.CoverLaws.{bool_cases, or_cases, or_left, or_right, none_means, none_from}
-use Rattle.sleeper_split.specs.Covers.{IsBerthNoWorse, IsWaitNoWorse, IsDeep, IsNoWorse, IsFresher, as_waiting, IsOwed, IsOwing, Covers, is_within, waits_none, is_berth_no_worse, is_wait_no_worse, is_deep, is_no_worse, is_fresher, is_owed, is_owing, covers_count}
+use Rattle.sleeper_split.specs.CoverLaws.{or_cases, or_left, or_right, none_means, none_from}
+use Rattle.sleeper_split.specs.Covers.{IsBerthNoWorse, IsWaitNoWorse, IsDeep, IsNoWorse, as_waiting, IsOwed, IsOwing, Covers, is_within, waits_none, is_berth_no_worse, is_wait_no_worse, is_deep, is_no_worse, is_fresher, is_owed, is_owing, covers_count}
 
 within_means : (u v : Used) → is_within u v ≡ true → IsWithin u v
 within_means u v h = let a = and_right (nat_le u.driving v.driving) (nat_le u.duty v.duty && nat_le u.elapsed v.elapsed) h in record {

@@ -13,3 +13,4 @@ pub mod Laws
 pub mod Covers
 pub mod CoverLaws
 pub mod CoverTests
+pub mod BetterLaws

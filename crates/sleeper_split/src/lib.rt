@@ -11,6 +11,7 @@ mod tests;
 
 pub use count::{OpenRun, Since, SplitCount, Used, WaitingRest};
 pub use laws::{
-    is_exact_in_canada, is_exact_in_united_states, is_told_by_places, tells_of_history,
+    is_exact_in_canada, is_exact_in_united_states, is_told_by_places, rests_safely,
+    stands_for_plainly_worse, stands_in_order, stands_on, tells_of_history,
 };
 pub use rule::{BerthRule, SplitRule};

@@ -4,7 +4,8 @@ ghost use Rattle.sleeper_split.specs.Machine.{IsSplitCount, run_of};
 
 use crate::count::{OpenRun, Since, SplitCount, Used, WaitingRest};
 use crate::laws::{
-    is_exact_in_canada, is_exact_in_united_states, is_told_by_places, tells_of_history,
+    is_exact_in_canada, is_exact_in_united_states, is_told_by_places, rests_safely,
+    stands_for_plainly_worse, stands_in_order, stands_on, tells_of_history,
 };
 use crate::rule::SplitRule;
 use std::test::Fail;
@@ -256,4 +257,138 @@ fn reads_back_its_parts(rt: HostRuntime) {
     is_exact_in_canada();
     tells_of_history();
     is_told_by_places();
+    stands_in_order();
+    stands_on();
+    rests_safely();
+    stands_for_plainly_worse();
+}
+
+/// Counts with nothing but what is used since the base, 30 minutes of duty more since the last rest
+/// where one waits.
+fn worn(used: u32, waiting: Option<WaitingRest>) -> Option<SplitCount>
+    requires range { used < 900000 }
+    ensures { IfSome result (λ s. IsSplitCount s × (run_of s ≡ 0)) }
+{
+    let base = Used {
+        driving: used,
+        duty: used,
+        elapsed: used,
+    };
+    let last = match waiting {
+        Some(_) => Used {
+            driving: 0,
+            duty: 30,
+            elapsed: 30,
+        },
+        None => base,
+    };
+    let run = OpenRun {
+        long: 0,
+        stretch: 0,
+        longest: 0,
+    };
+    SplitCount::of_parts(run, base, last, waiting)
+}
+
+/// Whether the first may stand for the second in the United States.
+fn stands(a: Option<SplitCount>, b: Option<SplitCount>) -> bool
+    requires a { IfSome a IsSplitCount }
+    requires b { IfSome b IsSplitCount }
+{
+    match (a, b) {
+        (Some(a), Some(b)) => a.covers(b, SplitRule::US, true),
+        _ => false,
+    }
+}
+
+#[test]
+fn stands_for_what_is_worse(rt: HostRuntime) {
+    let rest = |long| { Some(WaitingRest { long, berth: long }) };
+    let (fit, tired) = (worn(300, None), worn(301, None));
+    assert!(rt; stands(fit, fit), "for itself");
+    assert!(rt; stands(fit, tired), "for more driving");
+    assert!(rt; !stands(tired, fit), "for less driving");
+    let (waits, waits_longer) = (worn(300, rest(180)), worn(300, rest(181)));
+    assert!(rt; !stands(waits, fit), "where it owes a pair");
+    assert!(rt;
+        !stands(fit, waits),
+        "where the other has used less since its rest"
+    );
+    assert!(rt;
+        !stands(worn(30, None), waits),
+        "30 minutes of driving against none"
+    );
+    assert!(rt; stands(worn(0, None), waits), "for one that owes a pair");
+    assert!(rt;
+        stands(waits_longer, waits),
+        "for a shorter rest that waits"
+    );
+    assert!(rt; !stands(waits, waits_longer), "for a longer one");
+    assert!(rt;
+        stands(resting(600, 600, rest(180)), fit),
+        "a full rest for all"
+    );
+    assert!(rt; stands(resting(600, 0, None), fit), "a full rest for all");
+    assert!(rt; !stands(resting(599, 599, None), fit), "no full rest yet");
+}
+
+#[test]
+fn rests_on_where_a_split_rest_is_still_open(rt: HostRuntime) -> Result<(), Fail> {
+    let rule = SplitRule::US;
+    let Some(base) = SplitCount::fresh().end_full(rule) else {
+        return Err(Fail::from("no such end"));
+    };
+    let resting = rested(driven(base, 60), true, 120);
+    let Some(split) = resting.end_split(rule) else {
+        return Err(Fail::from("no such end"));
+    };
+    assert!(rt;
+        resting.rest(true).covers(split.duty(false), rule, true),
+        "it may still be split"
+    );
+    assert!(rt;
+        !resting.rest(true).covers(split.duty(false), rule, false),
+        "it may not"
+    );
+    assert!(rt; resting.is_of(rule, false) && !split.is_of(rule, false));
+    Ok(())
+}
+
+#[test]
+fn rests_safely_in_the_berth_or_where_none_waits(rt: HostRuntime) {
+    let waiting = Some(WaitingRest {
+        long: 180,
+        berth: 180,
+    });
+    for (canada, long, berth, waits, may, want) in [
+        (false, 100, 100, true, true, true),
+        (false, 100, 99, true, true, false),
+        (false, 100, 0, false, true, true),
+        (true, 100, 100, true, true, true),
+        (true, 100, 99, true, true, false),
+        (true, 479, 0, false, true, false),
+        (true, 480, 0, false, true, true),
+        (true, 479, 0, false, false, true),
+        (true, 480, 0, true, true, false),
+    ] {
+        let rule = if canada {
+            SplitRule::CANADA
+        } else {
+            SplitRule::US
+        };
+        let count = at_rest(long, berth, if waits { waiting } else { None });
+        assert_eq!(rt;
+            count.map(|s| s.is_ahead(rule, may)),
+            Some(want),
+            "{long} minutes"
+        );
+    }
+}
+
+/// A rest run in progress, where its length is no length of a test.
+fn at_rest(long: u32, berth: u32, waiting: Option<WaitingRest>) -> Option<SplitCount> {
+    if long == 0 || 1000 < long {
+        return None;
+    }
+    resting(long, berth, waiting)
 }
