@@ -1,0 +1,16 @@
+pub mod Machine
+pub mod Choices
+pub mod Alike
+pub mod Growth
+pub mod Tracks
+pub mod Exact
+pub mod TrackLaws
+pub mod Limits
+pub mod ChoiceLaws
+pub mod ExactLaws
+pub mod CountryLaws
+pub mod Laws
+pub mod Covers
+pub mod CoverLaws
+pub mod CoverTests
+pub mod BetterLaws
