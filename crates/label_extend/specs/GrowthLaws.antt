@@ -1,0 +1,1 @@
+-- The successors of a label are labels of the next step.
