@@ -9,3 +9,4 @@ pub mod CoverLaws
 pub mod ProblemOf
 pub mod UnitLaws
 pub mod SolutionLaws
+pub mod ContinuationLaws

@@ -1,5 +1,5 @@
 -- The search problem of a tour and a book.
-use Rattle.std.specs.Prelude.{◌≡◌, ℕ, ◌+◌, ◌*◌, Bool, List}
+use Rattle.std.specs.Prelude.{ℕ, ◌+◌, ◌*◌, Bool, List}
 use Rattle.duty_core.specs.declared.activity.Activity.{Activity}
 use Rattle.duty_core.specs.declared.mark.Mark.{Mark}
 use Rattle.duty_core.specs.Params.{unit_minutes}

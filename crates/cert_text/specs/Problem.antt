@@ -1,5 +1,5 @@
 -- What a search knows of a tour and a book, step by step: which labels grow from each other, and which is better.
-use Rattle.std.specs.Prelude.{◌≡◌, ℕ, ◌+◌, Bool, true, false, List, [], ◌∷◌, map, flat_map, Option, None, Some, nat_le, ◌==◌, ◌&&◌, unwrap_or, if◌then◌else◌}
+use Rattle.std.specs.Prelude.{◌≡◌, ℕ, Bool, true, false, List, [], ◌∷◌, map, flat_map, Option, None, Some, nat_le, ◌==◌, ◌&&◌, unwrap_or, if◌then◌else◌}
 use Rattle.duty_core.specs.declared.activity.Activity.{Activity}
 use Rattle.duty_core.specs.declared.activity.Activity.TheVariants.{Drive, Serve}
 use Rattle.rule_core.specs.declared.nexts.Next.{Next}

@@ -6,10 +6,8 @@ mod grown;
 mod laws;
 mod minute;
 
-pub use cert::{
-    Cert, CertKind, CertLabel, CertLabels, CertLayers, StepRun, StepRuns,
-};
+pub use cert::{Cert, CertKind, CertLabel, CertLabels, CertLayers, StepRun, StepRuns};
 pub use grown::Grown;
-pub use laws::{cover_lists_prove, certificates_prove};
+pub use laws::cover_lists_prove;
 pub use minute::minute_at;
 pub use tour_model::Label;
