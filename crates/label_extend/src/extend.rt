@@ -7,7 +7,9 @@ ghost use Rattle.tour_model.specs.Tour.{IsTour};
 ghost use Rattle.tour_model.specs.Word.{word_length};
 ghost use Rattle.tour_model.specs.Schedule.{step_units};
 ghost use Rattle.cert_text.specs.Problem.{grow, grown_by, successors_of};
-ghost use Rattle.cert_text.specs.Planning.{problem_of, minute_of};
+ghost use Rattle.cert_text.specs.Planning.{problem_of, minute_of, state_at};
+ghost use Rattle.cert_text.specs.Cover.{IsLabelAt};
+ghost use Rattle.label_extend.specs.Growths.{AreGrownAt};
 
 use crate::growths::Growths;
 use cert_text::{Grown, minute_at};
@@ -126,6 +128,8 @@ pub fn successors<B: RuleBook>(
     requires progress { label.now.progress ≤ word_length tour.now }
     requires step { step < STEP_LIMIT }
     ensures exact { IfOk result (λ list. list ≡ successors_of (problem_of tour.now (B.advances_of book.now) (B.covering book.now) (B.idles_of book.now)) step label.now) }
+    ensures labels { IsLabelAt (state_at tour.now (B.is_state_at book.now)) (word_length tour.now) step label.now →
+        IfOk result (AreGrownAt (state_at tour.now (B.is_state_at book.now)) (word_length tour.now) (step + 1)) }
     ensures finished { label.now.progress ≡ word_length tour.now → IfOk result (λ list. list ≡ []) }
 {
     let mut list = Growths::new(alloc);
