@@ -38,6 +38,27 @@ fn departs_later(a: Option<u32>, b: Option<u32>) -> bool
     }
 }
 
+/// Whether the first label departs no earlier, has done as much, and has a state that covers the
+/// other's.
+fn stands_for<B: RuleBook>(
+    book: &B,
+    tour: &Tour,
+    a: &Label<B::State>,
+    b: &Label<B::State>,
+    step: u32,
+) -> bool
+    requires tour { IsTour tour.now }
+    requires a { B.is_state_at book.now a.now.state (minute_of tour.now step) }
+    requires b { B.is_state_at book.now b.now.state (minute_of tour.now step) }
+    requires step { step < STEP_LIMIT }
+    ensures { result ≡ is_better (problem_of tour.now (B.advances_of book.now)
+        (B.covering book.now) (B.idles_of book.now)) step a.now b.now }
+{
+    a.progress == b.progress
+        && departs_later(a.depart, b.depart)
+        && book.covers(&a.state, &b.state, minute_at(tour, step))
+}
+
 /// Whether the first label may stand for the second at this step: it departs no earlier, has done
 /// as much, and its state covers the other's. Then each continuation of the second is answered by
 /// one of the first that ends at the same step and takes no more.
@@ -59,9 +80,7 @@ pub fn better<B: RuleBook>(
         IsLabelAt (state_at tour.now (B.is_state_at book.now)) (word_length tour.now) step b.now →
         AnswersContinuations (problem_of tour.now (B.advances_of book.now) (B.covering book.now) (B.idles_of book.now)) (allows tour.now.params) step a.now b.now }
 {
-    a.progress == b.progress
-        && departs_later(a.depart, b.depart)
-        && book.covers(&a.state, &b.state, minute_at(tour, step))
+    stands_for(book, tour, a, b, step)
 }
 
 /// The place of the first label of the layer that is better than this one.

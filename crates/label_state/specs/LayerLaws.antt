@@ -1,8 +1,8 @@
 -- Layers that grow.
-use Rattle.std.proofs.Common.{◌≡◌, ℕ, ◌+◌, ◌-◌, ◌<◌, ◌≤◌, List, [], ◌∷◌, ◌++◌, length, take, sym, ◌∙◌, ap, subst, arith, suc, length-append, set, inl, inr}
+use Rattle.std.proofs.Common.{◌≡◌, ℕ, ◌+◌, ◌-◌, ◌<◌, ◌≤◌, List, [], ◌∷◌, ◌++◌, length, take, sym, ◌∙◌, ap, subst, arith, zero, suc, length-append, set, inl, inr}
 use Rattle.std.proofs.lemmas.Bool.{cases_lt}
 use Rattle.std.proofs.lemmas.List.{length-map, set_split, length-set, get_or-map, drop_all, get_or_past, get_or_push, get_or_append_left, get_or-set_same, get_or-set_other}
-use Rattle.std.proofs.lemmas.List.Sums.{sum_by-set, sum_by-append}
+use Rattle.std.proofs.lemmas.List.Sums.{sum_by-set, sum_by-append, sum_by-cons}
 use Rattle.rule_core.specs.Reach.{IsOneOf}
 use Rattle.rule_core.specs.OneOf.{one_of-map, one_of_map}
 use Rattle.tour_model.specs.declared.label.Label.{Label}
@@ -69,3 +69,9 @@ one_of_labels layer k o = one_of_map (λ m. m.label) layer k o
 
 pub label_kept : {S : Type 0} (layer : List (Kept S)) (l : Label S) → IsOneOf (labels_of layer) l → (k : Kept S) × IsOneOf layer k × (k.label ≡ l)
 label_kept layer l o = one_of-map (λ m. m.label) layer l o
+
+-- no layer has more labels than all of them
+pub layer_within : {X : Type 0} (layers : List (List X)) (step : ℕ) → length (layer_at layers step) ≤ label_count layers
+layer_within [] step = omega arith
+layer_within (ys ∷ layers) zero = let e = sum_by-cons length ys layers in let r : length ys ≤ label_count (ys ∷ layers) = omega arith in r
+layer_within (ys ∷ layers) (suc step) = let e = sum_by-cons length ys layers in let h = layer_within layers step in let r : length (layer_at layers step) ≤ label_count (ys ∷ layers) = omega arith in r
