@@ -1,6 +1,6 @@
 //! The schedule of a label: the path to its place.
 #![tactic(auto)]
 
-mod rebuild;
+mod path;
 
-pub use rebuild::rebuild;
+pub use path::rebuild;
