@@ -90,3 +90,45 @@ impl<S: Drop> Layers<S> {
         self.layers[k as usize].as_slice()
     }
 }
+
+#[cfg(test)]
+mod tests {
+    use super::*;
+    use crate::Label;
+    use duty_core::Activity;
+    use std::test::Fail;
+
+    fn kept(parent: u32) -> Kept<u32>
+        ensures { result.parent ≡ parent }
+    {
+        let label = Label {
+            depart: None,
+            progress: 0,
+            state: 7,
+        };
+        Kept {
+            label,
+            parent,
+            act: Activity::Off,
+            mark: None,
+        }
+    }
+
+    #[test]
+    fn keeps_labels_in_the_last_layer(rt: HostRuntime) -> Result<(), Fail> {
+        let alloc = rt.alloc();
+        let mut layers = Layers::new(alloc);
+        assert_eq!(rt; layers.depth(), 0);
+        layers.push_layer(alloc)?;
+        layers.keep(kept(3))?;
+        layers.push_layer(alloc)?;
+        layers.keep(kept(0))?;
+        layers.keep(kept(0))?;
+        assert_eq!(rt; layers.depth(), 2);
+        assert_eq!(rt; layers.kept(), 3);
+        assert_eq!(rt; layers.layer(0).len(), 1);
+        assert_eq!(rt; layers.layer(0)[0].parent, 3);
+        assert_eq!(rt; layers.layer(1).len(), 2);
+        Ok(())
+    }
+}
