@@ -68,3 +68,62 @@ pub fn rebuild<S: Drop>(
         marks,
     })
 }
+
+#[cfg(test)]
+mod tests {
+    use super::*;
+    use duty_core::Activity;
+    use label_state::{Kept, Label};
+    use std::test::Fail;
+
+    /// A label of no account but its parent, its activity and its mark.
+    fn kept(parent: u32, act: Activity, mark: Option<Mark>) -> Kept<u32>
+        ensures parent { result.parent ≡ parent }
+        ensures act { result.act ≡ act }
+        ensures mark { result.mark ≡ mark }
+    {
+        let label = Label {
+            depart: None,
+            progress: 0,
+            state: 0,
+        };
+        Kept {
+            label,
+            parent,
+            act,
+            mark,
+        }
+    }
+
+    #[test]
+    fn goes_back_to_the_second_root(rt: HostRuntime) -> Result<(), Fail> {
+        let alloc = rt.alloc();
+        let deferred = Mark::DeferDay { day: 9 };
+        let split = Mark::SplitRest { at: 600 };
+        let mut marks = Marks::new(alloc);
+        marks.push(deferred)?;
+        let roots = [
+            Root {
+                state: 0,
+                marks: Marks::new(alloc),
+            },
+            Root { state: 0, marks },
+        ];
+        let mut layers = Layers::new(alloc);
+        layers.push_layer(alloc)?;
+        layers.keep(kept(0, Activity::Off, None))?;
+        layers.keep(kept(1, Activity::Off, None))?;
+        layers.push_layer(alloc)?;
+        layers.keep(kept(1, Activity::Drive, Some(split)))?;
+        layers.push_layer(alloc)?;
+        layers.keep(kept(0, Activity::Serve, None))?;
+        let place = Place { layer: 2, index: 0 };
+        let schedule = rebuild(alloc, &layers, roots.as_slice(), place)?;
+        assert_eq!(rt;
+            schedule.steps.items(),
+            [Activity::Drive, Activity::Serve].as_slice()
+        );
+        assert_eq!(rt; schedule.marks.items(), [deferred, split].as_slice());
+        Ok(())
+    }
+}
