@@ -167,3 +167,44 @@ pub struct Cert {
     pub marks: Marks,
     pub layers: CertLayers,
 }
+
+#[cfg(test)]
+mod tests {
+    use super::*;
+    use std::test::Fail;
+
+    #[test]
+    fn holds_what_it_is_given(rt: HostRuntime) -> Result<(), Fail> {
+        let alloc = rt.alloc();
+        let run = StepRun {
+            count: 8,
+            act: Activity::Drive,
+        };
+        let mut schedule = StepRuns::new(alloc);
+        schedule.push(run)?;
+        let mut numbers = Numbers::new(alloc);
+        numbers.push(600)?;
+        let mut labels = CertLabels::new(alloc);
+        labels.push(CertLabel {
+            depart: None,
+            progress: 0,
+            numbers,
+        })?;
+        let mut layers = CertLayers::new(alloc);
+        layers.push(labels)?;
+        let cert = Cert {
+            kind: CertKind::Shortest,
+            target: Some(10),
+            schedule,
+            marks: Marks::new(alloc),
+            layers,
+        };
+        assert_eq!(rt; cert.kind, CertKind::Shortest);
+        assert_eq!(rt; cert.schedule.items(), [run].as_slice());
+        assert_eq!(rt; cert.layers.items().len(), 1);
+        let label = &cert.layers.items()[0].items()[0];
+        assert_eq!(rt; label.depart, None);
+        assert_eq!(rt; label.numbers.items(), [600].as_slice());
+        Ok(())
+    }
+}
