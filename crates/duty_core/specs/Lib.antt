@@ -33,3 +33,6 @@ pub mod CountLaws
 pub mod AuFrontLaws
 pub mod LostFrontLaws
 pub mod ExistLaws
+pub mod MarkListLaws
+pub mod FrontLaws
+pub mod BookLaws
