@@ -9,6 +9,12 @@ pub const LONGEST_LOG: u32 = 30_240;
 /// The civil minute that no call of a rule book reaches.
 pub const MINUTE_LIMIT: u32 = 100_000_000;
 
+/// The rest that stands before and behind each history, in minutes: twenty-eight days.
+pub const PADDING_MINUTES: u32 = 40_320;
+
+/// The greatest number that a count of minutes reaches, where it stays.
+pub const COUNT_LIMIT: u32 = 999_999;
+
 /// The length of a full rest in the United States, in minutes: ten hours (49 CFR 395.3(a)(1)).
 pub const US_FULL_REST: u32 = 600;
 
