@@ -1,3 +1,4 @@
 pub mod Machine
-pub mod Tracks
-pub mod Laws
+pub mod Padding
+pub mod BreakGuard
+pub mod WeekGuard
