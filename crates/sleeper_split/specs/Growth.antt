@@ -79,6 +79,18 @@ run_before p r a b e h = let i = run_inside p a b h in elim (cases_lt (b + r) (l
   | inr l ↦ absurd (let z : true ≡ false = sym (e.rest b l i) ∙ h.ended in cc)
 ]
 
+no_longer : (p : List Activity) (a b : ℕ) → EndsIn p a → EndsIn p b → a < b → ⊥
+no_longer p a b h g l = let t = g.there in
+    let k : ℕ = length p - a - 1 in
+    let z : true ≡ false = sym (g.rest k (omega arith) (omega arith)) ∙ h.starts k (omega arith) in cc
+
+-- there is one run in progress
+pub ends_unique : (p : List Activity) (a b : ℕ) → EndsIn p a → EndsIn p b → a ≡ b
+ends_unique p a b h g = elim (cases_lt a b) [
+  | inl l ↦ absurd (no_longer p a b h g l)
+  | inr m ↦ elim (cases_lt b a) [ inl l ↦ absurd (no_longer p b a g h l) | inr n ↦ omega arith ]
+]
+
 -- units behind, and marks that name no run before the one in progress
 pub marked_fence : (p q : List Activity) (m o : List ℕ) (r : ℕ) → EndsIn p r → From (length p - r) o → AreMarkedAlike p (Contains m) (p ++ q) (Contains (m ++ o)) (length p)
 marked_fence p q m o r h f = record {

@@ -4,3 +4,8 @@ pub mod Alike
 pub mod Growth
 pub mod Tracks
 pub mod Exact
+pub mod TrackLaws
+pub mod Limits
+pub mod ChoiceLaws
+pub mod ExactLaws
+pub mod CountryLaws
