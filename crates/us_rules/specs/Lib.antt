@@ -2,3 +2,5 @@ pub mod Machine
 pub mod Padding
 pub mod BreakGuard
 pub mod WeekGuard
+pub mod Paths
+pub mod Places
