@@ -4,3 +4,4 @@ pub mod BreakGuard
 pub mod WeekGuard
 pub mod Paths
 pub mod Places
+pub mod Exact

@@ -5,15 +5,14 @@ use Rattle.duty_core.specs.declared.activity.Activity.{Activity}
 use Rattle.duty_core.specs.declared.activity.Activity.TheVariants.{Drive, Serve, Wait, Off, Berth}
 use Rattle.duty_core.specs.declared.mark.Mark.{Mark}
 use Rattle.duty_core.specs.declared.mark.Mark.TheVariants.{SplitRest}
-use Rattle.duty_core.specs.declared.limits.TheConstants.{DAY_MINUTES, US_FULL_REST, US_SPLIT_LEAST, US_PAIR_LEAST, US_WINDOW_LIMIT, US_DRIVING_LIMIT, US_BREAK, US_UNBROKEN_LIMIT, US_RESTART}
+use Rattle.duty_core.specs.declared.limits.TheConstants.{DAY_MINUTES, US_WINDOW_LIMIT, US_DRIVING_LIMIT, US_BREAK, US_UNBROKEN_LIMIT, US_RESTART}
 use Rattle.duty_core.specs.Activity.{rests, drives}
 use Rattle.duty_core.specs.UsRules.{us_week_limit}
 use Rattle.rule_core.specs.declared.nexts.Next.{Next}
 use Rattle.rule_core.specs.declared.nexts.Idles.{Idles}
 use Rattle.day_sums.specs.Sums.{added, today}
 use Rattle.day_sums.specs.Counted.{turned, after_rest}
-use Rattle.sleeper_split.specs.declared.rule.SplitRule.{SplitRule}
-use Rattle.sleeper_split.specs.declared.rule.BerthRule.TheVariants.{SevenInOne}
+use Rattle.sleeper_split.specs.declared.rule.TheConstants.SplitRule.{US}
 use Rattle.sleeper_split.specs.declared.count.SplitCount.{SplitCount}
 use Rattle.sleeper_split.specs.declared.count.Since.TheVariants.{Driving, Elapsed}
 use Rattle.sleeper_split.specs.Machine.{IsSplitCount, fresh_count, after_duty, end_undeclared, end_split, end_full, used_of, run_of}
@@ -23,10 +22,6 @@ use Rattle.us_rules.specs.declared.state.WeekCount.{WeekCount}
 use Rattle.us_rules.specs.declared.state.UsState.{UsState}
 
 -- # Full and split rests
-
--- how the United States let rest be split
-abbrev pub us_rule : SplitRule
-us_rule = record { least = US_SPLIT_LEAST; full = US_FULL_REST; pair = US_PAIR_LEAST; berth = SevenInOne }
 
 -- at a unit of driving: the window of fourteen hours, and eleven hours of driving
 abbrev pub us_fits : SplitCount → Bool
@@ -89,7 +84,7 @@ us_next rest_break week start c = record { state = us_made c.count rest_break we
 abbrev pub us_nexts : Bool → ℕ → ℕ → UsState → ℕ → Activity → List (Next UsState)
 us_nexts berth days day_start s at x =
     if break_ok s.rest_break at x && week_ok days day_start s.week at x
-    then map (us_next (break_after s.rest_break at x) (week_after day_start s.week at x) (at - run_of s.split)) (choices us_rule berth us_fits s.split x)
+    then map (us_next (break_after s.rest_break at x) (week_after day_start s.week at x) (at - run_of s.split)) (choices US berth us_fits s.split x)
     else []
 
 -- # Many equal units

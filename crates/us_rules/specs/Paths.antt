@@ -12,6 +12,7 @@ use Rattle.rule_core.specs.declared.nexts.Next.{Next}
 use Rattle.rule_core.specs.Reach.{IsOneOf, Reaches}
 use Rattle.rule_core.specs.OneOf.{one_of-map, one_of_map}
 use Rattle.rule_core.specs.Guard.{Passes, when_true, true_when}
+use Rattle.sleeper_split.specs.declared.rule.TheConstants.SplitRule.{US}
 use Rattle.sleeper_split.specs.declared.count.SplitCount.{SplitCount}
 use Rattle.sleeper_split.specs.Machine.{run_of}
 use Rattle.sleeper_split.specs.Choices.{Choice, choices, declared, Declares}
@@ -20,7 +21,7 @@ use Rattle.sleeper_split.specs.ChoiceLaws.{IsChoice, choice_cases}
 use Rattle.us_rules.specs.declared.state.BreakCount.{BreakCount}
 use Rattle.us_rules.specs.declared.state.WeekCount.{WeekCount}
 use Rattle.us_rules.specs.declared.state.UsState.{UsState}
-use Rattle.us_rules.specs.Machine.{us_rule, us_fits, break_after, break_ok, week_after, week_ok, us_made, mark_of, us_next, us_nexts}
+use Rattle.us_rules.specs.Machine.{us_fits, break_after, break_ok, week_after, week_ok, us_made, mark_of, us_next, us_nexts}
 
 -- # Successors
 
@@ -47,31 +48,31 @@ pub record IsUsNext (berth : Bool) (days day_start : ℕ) (s : UsState) (at : �
   pub unbroken : break_ok s.rest_break at x ≡ true
   pub week : week_ok days day_start s.week at x ≡ true
   pub by : Choice
-  pub chosen : Contains (choices us_rule berth us_fits s.split x) by
+  pub chosen : Contains (choices US berth us_fits s.split x) by
   pub is : us_next (break_after s.rest_break at x) (week_after day_start s.week at x) (at - run_of s.split) by ≡ n
 
 pub next_means : (berth : Bool) (days day_start : ℕ) (s : UsState) (at : ℕ) (x : Activity) (n : Next UsState) → IsOneOf (us_nexts berth days day_start s at x) n → IsUsNext berth days day_start s at x n
 next_means berth days day_start s at x n o =
     let by = us_next (break_after s.rest_break at x) (week_after day_start s.week at x) (at - run_of s.split) in
-    let w = when_true (break_ok s.rest_break at x && week_ok days day_start s.week at x) (map by (choices us_rule berth us_fits s.split x)) n o in
+    let w = when_true (break_ok s.rest_break at x && week_ok days day_start s.week at x) (map by (choices US berth us_fits s.split x)) n o in
     let b = both_true (break_ok s.rest_break at x) (week_ok days day_start s.week at x) w.0 in
-    let k = one_of-map by (choices us_rule berth us_fits s.split x) n w.1 in
-    record { unbroken = b.0; week = b.1; by = k.0; chosen = contains_of (choices us_rule berth us_fits s.split x) k.0 k.1; is = k.2 }
+    let k = one_of-map by (choices US berth us_fits s.split x) n w.1 in
+    record { unbroken = b.0; week = b.1; by = k.0; chosen = contains_of (choices US berth us_fits s.split x) k.0 k.1; is = k.2 }
 
 pub means_next : (berth : Bool) (days day_start : ℕ) (s : UsState) (at : ℕ) (x : Activity) (c : Choice) → break_ok s.rest_break at x ≡ true → week_ok days day_start s.week at x ≡ true →
-    Contains (choices us_rule berth us_fits s.split x) c →
+    Contains (choices US berth us_fits s.split x) c →
     IsOneOf (us_nexts berth days day_start s at x) (us_next (break_after s.rest_break at x) (week_after day_start s.week at x) (at - run_of s.split) c)
 means_next berth days day_start s at x c b w h =
     let by = us_next (break_after s.rest_break at x) (week_after day_start s.week at x) (at - run_of s.split) in
-    true_when (break_ok s.rest_break at x && week_ok days day_start s.week at x) (map by (choices us_rule berth us_fits s.split x)) (by c)
+    true_when (break_ok s.rest_break at x && week_ok days day_start s.week at x) (map by (choices US berth us_fits s.split x)) (by c)
     (true_both (break_ok s.rest_break at x) (week_ok days day_start s.week at x) b w)
-    (one_of_map by (choices us_rule berth us_fits s.split x) c (of_contains (choices us_rule berth us_fits s.split x) c h))
+    (one_of_map by (choices US berth us_fits s.split x) c (of_contains (choices US berth us_fits s.split x) c h))
 
-pub us_choice : (berth : Bool) (s : SplitCount) (x : Activity) (c : Choice) → Contains (choices us_rule berth us_fits s x) c → IsChoice us_rule berth us_fits s x c
-us_choice berth s x c h = choice_cases us_rule berth us_fits s x c (omega arith) h
+pub us_choice : (berth : Bool) (s : SplitCount) (x : Activity) (c : Choice) → Contains (choices US berth us_fits s x) c → IsChoice US berth us_fits s x c
+us_choice berth s x c h = choice_cases US berth us_fits s x c (omega arith) h
 
 -- the run in progress grows by one at most
-pub choice_run : (berth : Bool) (s : SplitCount) (x : Activity) (c : Choice) (i : ℕ) → IsChoice us_rule berth us_fits s x c → run_of s ≤ i → run_of c.count ≤ i + 1
+pub choice_run : (berth : Bool) (s : SplitCount) (x : Activity) (c : Choice) (i : ℕ) → IsChoice US berth us_fits s x c → run_of s ≤ i → run_of c.count ≤ i + 1
 choice_run berth s x c i h l = elim h [
   | inl r ↦ (let e = ap (λ (d : Choice). run_of d.count) r.is in omega arith)
   | inr k ↦ elim k [
@@ -113,7 +114,7 @@ led go c at (x ∷ xs) = led go (go c at x) (at + 1) xs
 pub record IsUsPath (berth : Bool) (days day_start first : ℕ) (s : UsState) (at i : ℕ) (xs : List Activity) (marks : List Mark) (u : UsState) : Type 0 where
   pub starts : List ℕ
   pub named : marks ≡ map (mark_at first) starts
-  pub declares : Declares us_rule berth us_fits s.split i xs starts u.split
+  pub declares : Declares US berth us_fits s.split i xs starts u.split
   pub unbroken : Passes 1 break_ok break_after s.rest_break at xs
   pub week : Passes 1 (week_ok days day_start) (week_after day_start) s.week at xs
   pub led_break : u.rest_break ≡ led break_after s.rest_break at xs
@@ -144,7 +145,7 @@ us_path berth days day_start first (x ∷ xs) s at i marks u e l r =
     record {
       starts = declared k.by.split (i - run_of s.split) ++ q.starts;
       named = named_more k.by.split first at i (run_of s.split) marks r.2 r.0.mark q.starts e l r.3 (sym em) q.named;
-      declares = (k.by, k.chosen, q.starts, refl, subst (λ c. Declares us_rule berth us_fits c (i + 1) xs q.starts u.split) (sym es) q.declares);
+      declares = (k.by, k.chosen, q.starts, refl, subst (λ c. Declares US berth us_fits c (i + 1) xs q.starts u.split) (sym es) q.declares);
       unbroken = (k.unbroken, subst (λ c. Passes 1 break_ok break_after c (at + 1) xs) (sym eb) q.unbroken);
       week = (k.week, subst (λ c. Passes 1 (week_ok days day_start) (week_after day_start) c (at + 1) xs) (sym ew) q.week);
       led_break = q.led_break ∙ ap (λ c. led break_after c (at + 1) xs) (sym eb);
@@ -152,7 +153,7 @@ us_path berth days day_start first (x ∷ xs) s at i marks u e l r =
     }
 
 pub path_us : (berth : Bool) (days day_start first : ℕ) (xs : List Activity) (s : UsState) (at i : ℕ) (starts : List ℕ) (t : SplitCount) → at + PADDING_MINUTES ≡ first + i → run_of s.split ≤ i →
-    Declares us_rule berth us_fits s.split i xs starts t → Passes 1 break_ok break_after s.rest_break at xs → Passes 1 (week_ok days day_start) (week_after day_start) s.week at xs →
+    Declares US berth us_fits s.split i xs starts t → Passes 1 break_ok break_after s.rest_break at xs → Passes 1 (week_ok days day_start) (week_after day_start) s.week at xs →
     (u : UsState) × UsReaches berth days day_start s at xs (map (mark_at first) starts) u
 path_us berth days day_start first [] s at i starts t e l d b w = (s, (refl, ap (map (mark_at first)) d.1))
 path_us berth days day_start first (x ∷ xs) s at i starts t e l d b w =

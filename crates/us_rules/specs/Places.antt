@@ -45,6 +45,11 @@ get_or-map f [] i d e l = absurd (omega arith)
 get_or-map f (x ∷ xs) zero d e l = refl
 get_or-map f (x ∷ xs) (suc i) d e l = get_or-map f xs i d e (omega arith)
 
+contains_at : {X : Type 0} (xs : List X) (i : ℕ) (d : X) → i < length xs → Contains xs (get_or xs i d)
+contains_at [] i d l = absurd (omega arith)
+contains_at (x ∷ xs) zero d l = contains_head x xs
+contains_at (x ∷ xs) (suc i) d l = contains_tail x xs (get_or xs i d) (contains_at xs i d (omega arith))
+
 -- an order of the images, by one of the elements
 pairs_map : {X Y : Type 0} (f : X → Y) (R : X → X → Type 0) (S : Y → Y → Type 0) (xs : List X) → ((a b : X) → Contains xs a → Contains xs b → R a b → S (f a) (f b)) → AllPairs R xs → AllPairs S (map f xs)
 pairs_map f R S [] on h i j d l m = absurd (omega arith)
@@ -54,7 +59,7 @@ pairs_map f R S (x ∷ xs) on h i j d l m =
     let v : j < length (x ∷ xs) = omega arith in
     subst (λ y. S y (get_or (map f (x ∷ xs)) j d)) (sym (get_or-map f (x ∷ xs) i x d u))
     (subst (λ y. S (f (get_or (x ∷ xs) i x)) y) (sym (get_or-map f (x ∷ xs) j x d v))
-    (on (get_or (x ∷ xs) i x) (get_or (x ∷ xs) j x) (i, u, refl) (j, v, refl) (h i j x l v)))
+    (on (get_or (x ∷ xs) i x) (get_or (x ∷ xs) j x) (contains_at (x ∷ xs) i x u) (contains_at (x ∷ xs) j x v) (h i j x l v)))
 
 -- # Marks and places
 
