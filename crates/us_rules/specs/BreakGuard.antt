@@ -82,7 +82,7 @@ longest_still p x c h (suc n) l t s =
     let k : n ≤ c.still = h.longest n (omega arith) (omega arith) (still_less p x n (subst (EndsStill (p ++ x ∷ [])) (let e : suc n ≡ n + 1 = omega arith in e) s)) in
     omega arith
 
-paused_cases : (c : BreakCount) → ((c.still + 1 < US_BREAK) × (paused c ≡ break_made (c.still + 1) c.driven)) ⊎ ((US_BREAK ≤ c.still + 1) × (paused c ≡ break_made US_BREAK 0))
+pub paused_cases : (c : BreakCount) → ((c.still + 1 < US_BREAK) × (paused c ≡ break_made (c.still + 1) c.driven)) ⊎ ((US_BREAK ≤ c.still + 1) × (paused c ≡ break_made US_BREAK 0))
 paused_cases c = elim (cases_lt (c.still + 1) US_BREAK) [ inl l ↦ inl (l, grind (arith, nat_tests)) | inr l ↦ inr (l, grind (arith, nat_tests)) ]
 
 tracks_paused : (p : List Activity) (x : Activity) (c : BreakCount) → drives x ≡ false → TracksBreak p c → TracksBreak (p ++ x ∷ []) (paused c)

@@ -5,3 +5,7 @@ pub mod WeekGuard
 pub mod Paths
 pub mod Places
 pub mod Exact
+pub mod States
+pub mod Advance
+pub mod Covers
+pub mod Single

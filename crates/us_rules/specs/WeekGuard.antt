@@ -51,7 +51,7 @@ capped_rest run rest sums e = elim (cases_lt (run + 1) US_RESTART) [
   | inr l ↦ (let m : US_RESTART ≤ rest + 1 = omega arith in grind (arith, nat_tests))
 ]
 
-length-after_rest : (run : ℕ) (sums : List ℕ) → length (after_rest US_RESTART run sums) ≡ length sums
+pub length-after_rest : (run : ℕ) (sums : List ℕ) → length (after_rest US_RESTART run sums) ≡ length sums
 length-after_rest run sums = elim (cases_lt run US_RESTART) [
   | inl l ↦ (let e : after_rest US_RESTART run sums ≡ sums = grind (arith, nat_tests) in ap length e)
   | inr l ↦ (let e : after_rest US_RESTART run sums ≡ cleared sums = grind (arith, nat_tests) in ap length e ∙ length-cleared sums)
