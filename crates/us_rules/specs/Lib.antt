@@ -9,3 +9,4 @@ pub mod States
 pub mod Advance
 pub mod Covers
 pub mod Single
+pub mod Ends

@@ -6,11 +6,11 @@ use Rattle.std.proofs.lemmas.Bool.Decides.{nat_tests}
 use Rattle.std.proofs.lemmas.List.{length-replicate}
 use Rattle.duty_core.specs.declared.activity.Activity.{Activity}
 use Rattle.duty_core.specs.declared.activity.Activity.TheVariants.{Drive, Serve, Wait, Off, Berth}
-use Rattle.duty_core.specs.declared.limits.TheConstants.{DAY_MINUTES, COUNT_LIMIT, US_BREAK, US_UNBROKEN_LIMIT, US_RESTART}
+use Rattle.duty_core.specs.declared.limits.TheConstants.{DAY_MINUTES, COUNT_LIMIT, US_BREAK, US_UNBROKEN_LIMIT, US_RESTART, US_SHORT_WEEK}
 use Rattle.duty_core.specs.Activity.{rests, drives}
 use Rattle.rule_core.specs.declared.nexts.Next.{Next}
 use Rattle.rule_core.specs.Reach.{IsOneOf}
-use Rattle.day_sums.specs.Sums.{added, rolled, cleared, today}
+use Rattle.day_sums.specs.Sums.{IsDays, added, rolled, cleared, today}
 use Rattle.day_sums.specs.SumLaws.{length-added, length-rolled, length-cleared, today_rolled, today_cleared, today_added}
 use Rattle.day_sums.specs.Counted.{turned, after_rest, length-turned}
 use Rattle.sleeper_split.specs.declared.rule.TheConstants.SplitRule.{US}
@@ -23,7 +23,7 @@ use Rattle.sleeper_split.specs.ChoiceLaws.{IsChoice}
 use Rattle.us_rules.specs.declared.state.BreakCount.{BreakCount}
 use Rattle.us_rules.specs.declared.state.WeekCount.{WeekCount}
 use Rattle.us_rules.specs.declared.state.UsState.{UsState}
-use Rattle.us_rules.specs.Machine.{us_fits, break_made, paused, break_after, break_ok, week_made, begins_day, week_rested, week_after, us_nexts, root_state, day_so_far, IsUsState}
+use Rattle.us_rules.specs.Machine.{us_fits, break_made, paused, break_after, break_ok, week_made, begins_day, week_rested, week_after, us_nexts, first_of, root_state, day_so_far, IsUsState}
 use Rattle.us_rules.specs.BreakGuard.{paused_cases}
 use Rattle.us_rules.specs.WeekGuard.{length-after_rest}
 use Rattle.us_rules.specs.Paths.{next_means, us_choice}
@@ -216,3 +216,21 @@ next_is_us_state berth days day_start s at x n h o =
     let w : IsWeekCount days day_start n.state.week (at + 1) = subst (λ (m : Next UsState). IsWeekCount days day_start m.state.week (at + 1)) k.is (week_kept days day_start s.week at x (record { rest = h.rest; days_counted = h.days_counted; day = h.day })) in
     let c : IsSplitCount n.state.split = subst (λ (m : Next UsState). IsSplitCount m.state.split) k.is (choice_kept berth s.split x k.by h.split (us_choice berth s.split x k.by k.chosen)) in
     record { split = c; still = b.still; driven = b.driven; rest = w.rest; days_counted = w.days_counted; day = w.day }
+
+-- the week has some days
+pub some_days : (days : ℕ) → (US_SHORT_WEEK ≤ days) × (days ≤ 8) → 0 < days
+some_days days h = let a = h.0 in omega arith
+
+-- and may be counted
+pub week_counted : (days : ℕ) → (US_SHORT_WEEK ≤ days) × (days ≤ 8) → IsDays days
+week_counted days h = let a = h.0 in let b = h.1 in elim (cases_lt days 8) [ inl l ↦ inl (omega arith) | inr l ↦ inr (inl (omega arith)) ]
+
+-- the first successor is a state too
+first_in : (ns : List (Next UsState)) (t : UsState) → first_of ns ≡ Some t → (n : Next UsState) × IsOneOf ns n × (n.state ≡ t)
+first_in [] t e = absurd (let z : None ≡ Some t = e in cc)
+first_in (n ∷ ns) t e = (n, inl refl, let q : n.state ≡ t = cc in q)
+
+pub first_is_us_state : (berth : Bool) (days day_start : ℕ) (s t : UsState) (at : ℕ) (x : Activity) → IsUsState days day_start s at → first_of (us_nexts berth days day_start s at x) ≡ Some t → IsUsState days day_start t (at + 1)
+first_is_us_state berth days day_start s t at x h e =
+    let q = first_in (us_nexts berth days day_start s at x) t e in
+    subst (λ u. IsUsState days day_start u (at + 1)) q.2 (next_is_us_state berth days day_start s at x q.0 h q.1)

@@ -1,6 +1,9 @@
 //! The rule book of the United States, property-carrying (49 CFR 395.3 and 395.1(g)(1)).
 #![tactic(auto)]
 
+mod book;
+mod ends;
 mod state;
 
+pub use book::UsBook;
 pub use state::{BreakCount, UsState, WeekCount};
