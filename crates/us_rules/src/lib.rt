@@ -4,6 +4,8 @@
 mod book;
 mod ends;
 mod state;
+#[cfg(test)]
+mod tests;
 
 pub use book::UsBook;
 pub use state::{BreakCount, UsState, WeekCount};
