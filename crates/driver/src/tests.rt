@@ -35,10 +35,15 @@ impl<'a> Given<'a> {
     }
 }
 
-/// A tour of the United States on half hours with these stops.
+/// A tour of the United States on half hours with these stops, in a truck without a berth.
 fn tour_of(alloc: Global, stops: &str) -> Result<String, NoMemory> {
+    tour_with(alloc, false, stops)
+}
+
+/// The same, in a truck with a berth or without one.
+fn tour_with(alloc: Global, berth: bool, stops: &str) -> Result<String, NoMemory> {
     Ok(format!(in alloc;
-        r#"{{"book":"us","grid":30,"start":"2026-03-02T06:00","berth":false,"days":8,"day_start":"00:00","stops":[{stops}]}}"#
+        r#"{{"book":"us","grid":30,"start":"2026-03-02T06:00","berth":{berth},"days":8,"day_start":"00:00","stops":[{stops}]}}"#
     )?)
 }
 
@@ -290,13 +295,13 @@ fn judges_logs(rt: HostRuntime) -> Result<(), Fail> {
             AUDIT,
             long,
             Status::LogUnlawful,
-            "log unlawful at 2026-03-02T05:00\n",
+            "log unlawful at 2026-03-02T02:00\n",
         ),
         (
             PLAN,
             long,
             Status::LogUnlawful,
-            "log unlawful at 2026-03-02T05:00\n",
+            "log unlawful at 2026-03-02T02:00\n",
         ),
     ];
     for (words, log, status, text) in cases {
@@ -354,7 +359,7 @@ fn plans_tours(rt: HostRuntime) -> Result<(), Fail> {
 fn plans_behind_a_log(rt: HostRuntime) -> Result<(), Fail> {
     let alloc = rt.alloc();
     // Eleven hours at the wheel up to the start: ten hours of rest have to come first.
-    let tired = "from,to,status\n2026-03-01T19:00,2026-03-02T06:00,D\n";
+    let tired = "from,to,status\n2026-03-01T18:30,2026-03-02T00:00,D\n2026-03-02T00:00,2026-03-02T00:30,ON\n2026-03-02T00:30,2026-03-02T06:00,D\n";
     let cases = [
         (
             "2026-03-02T20:00",
@@ -369,6 +374,56 @@ fn plans_behind_a_log(rt: HostRuntime) -> Result<(), Fail> {
         let (ended, sent) = answer(alloc, Given::new(&PLAN, tour.as_str(), tired))?;
         assert_eq!(rt; ended, status, "where {text} is sent");
         assert!(rt; sent.as_slice().starts_with(text.as_bytes()));
+    }
+    Ok(())
+}
+
+/// The days before a tour, each in a truck with a berth or without one: whether its log is lawful,
+/// or where it is not.
+const AUDITED: [(bool, &str, &str); 6] = [
+    (
+        false,
+        "2026-03-01T00:00,2026-03-01T14:00,ON\n2026-03-01T14:00,2026-03-01T14:01,D\n2026-03-01T14:01,2026-03-02T06:00,OFF\n",
+        "log unlawful at 2026-03-01T14:00\n",
+    ),
+    (
+        false,
+        "2026-03-01T00:00,2026-03-01T13:59,ON\n2026-03-01T13:59,2026-03-01T14:00,D\n2026-03-01T14:00,2026-03-02T06:00,OFF\n",
+        "lawful\n",
+    ),
+    (
+        true,
+        "2026-03-01T00:00,2026-03-01T05:00,D\n2026-03-01T05:00,2026-03-01T12:00,SB\n2026-03-01T12:00,2026-03-01T17:00,D\n2026-03-01T17:00,2026-03-01T20:00,OFF\n2026-03-01T20:00,2026-03-02T02:00,D\n2026-03-02T02:00,2026-03-02T06:00,OFF\n",
+        "lawful\n",
+    ),
+    (
+        true,
+        "2026-03-01T00:00,2026-03-01T05:00,D\n2026-03-01T05:00,2026-03-01T12:00,SB\n2026-03-01T12:00,2026-03-01T17:00,D\n2026-03-01T17:00,2026-03-01T20:00,OFF\n2026-03-01T20:00,2026-03-02T02:01,D\n2026-03-02T02:01,2026-03-02T06:00,OFF\n",
+        "log unlawful at 2026-03-02T02:00\n",
+    ),
+    (
+        true,
+        "2026-03-01T00:00,2026-03-01T05:00,D\n2026-03-01T05:00,2026-03-01T12:00,SB\n2026-03-01T12:00,2026-03-01T17:00,D\n2026-03-01T17:00,2026-03-01T19:59,OFF\n2026-03-01T19:59,2026-03-02T02:00,D\n2026-03-02T02:00,2026-03-02T06:00,OFF\n",
+        "log unlawful at 2026-03-01T20:59\n",
+    ),
+    (
+        false,
+        "2026-03-01T00:00,2026-03-01T05:00,D\n2026-03-01T05:00,2026-03-01T12:00,SB\n2026-03-01T12:00,2026-03-01T17:00,D\n2026-03-01T17:00,2026-03-01T20:00,OFF\n2026-03-01T20:00,2026-03-02T02:00,D\n2026-03-02T02:00,2026-03-02T06:00,OFF\n",
+        "log unlawful at 2026-03-01T14:00\n",
+    ),
+];
+
+#[test]
+fn audits_days_of_work_and_rest(rt: HostRuntime) -> Result<(), Fail> {
+    let alloc = rt.alloc();
+    let stop = stop(alloc, 240, 60, "2026-03-02T06:00", "2026-03-02T10:00")?;
+    for (berth, rows, text) in AUDITED {
+        let tour = tour_with(alloc, berth, stop.as_str())?;
+        let log = format!(in alloc; "from,to,status\n{rows}")?;
+        let (ended, sent) = answer(alloc, Given::new(&AUDIT, tour.as_str(), log.as_str()))?;
+        let lawful = sent.as_slice() == "lawful\n".as_bytes();
+        assert_eq!(rt; ended == Status::Done, lawful, "where {text} is sent");
+        assert_eq!(rt; sent.as_slice(), text.as_bytes());
     }
     Ok(())
 }

@@ -107,7 +107,7 @@ way_solves tour log is_state root nexts advances covers tries m t l s start xs m
       serves = serves;
       lawful = record {
         marks = start.0 ++ marks;
-        with = (m.exact (history_of tour log xs) (start.0 ++ marks) (history_timed tour t log xs l serves)).0 (u, whole);
+        keeps = (m.exact (history_of tour log xs) (start.0 ++ marks) (history_timed tour t log xs l serves)).0 (u, whole);
       };
     }
 
@@ -127,7 +127,7 @@ solution_way : {S : Type 0} (tour : Tour) (log : List Activity) (is_state : S â†
 solution_way tour log is_state root nexts advances covers tries m t l xs s =
     let unit = unit_minutes tour.params in
     let units = units_of (step_units tour) xs in
-    let r = (m.exact (history_of tour log xs) s.lawful.marks (history_timed tour t log xs l s.serves)).1 s.lawful.with in
+    let r = (m.exact (history_of tour log xs) s.lawful.marks (history_timed tour t log xs l s.serves)).1 s.lawful.keeps in
     let p = reaches_parted unit nexts log units root (log_start tour log) s.lawful.marks r.0 r.1 in
     let start : IsLogState tour log root nexts p.between = (p.earlier, p.front) in
     let rest = subst (Î» at. Reaches unit nexts p.between at units p.later r.0) (log_ends tour t log l) p.rest in

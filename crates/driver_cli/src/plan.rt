@@ -5,7 +5,6 @@ ghost use Rattle.rule_core.specs.Replay.{AreRootsOf};
 ghost use Rattle.duty_core.specs.declared.limits.TheConstants.{LONGEST_LOG};
 ghost use Rattle.tour_model.specs.Schedule.{log_start};
 ghost use Rattle.tour_model.specs.Tour.{IsTour};
-ghost use Rattle.us_rules.specs.Machine.{root_state, nexts_after, covers_state};
 ghost use Rattle.driver_cli.specs.Planning.{problem_of, IsLogState};
 ghost use Rattle.driver_cli.specs.Planned.{IsPlannedBy, IsPlanned};
 
@@ -70,8 +69,8 @@ pub fn plan_tour(
     requires tour { IsTour tour.now }
     requires book { ⟦<UsBook as RuleBook>⟧.params_of book.now ≡ tour.now.params }
     requires short { unit_minutes tour.now.params * length log.now ≤ LONGEST_LOG }
-    requires roots { AreRootsOf (unit_minutes tour.now.params) (λ s at x. nexts_after s x) (λ a b at. covers_state a b) root_state
-        (log_start tour.now log.now) log.now roots.now }
+    requires roots { AreRootsOf (unit_minutes tour.now.params) (⟦<UsBook as RuleBook>⟧.nexts_of book.now) (⟦<UsBook as RuleBook>⟧.covering book.now)
+        (⟦<UsBook as RuleBook>⟧.root_of book.now (log_start tour.now log.now)) (log_start tour.now log.now) log.now roots.now }
     ensures { IfOk result (IsPlanned tour.now log.now) }
 {
     plan_by(alloc, book, tour, log, roots)

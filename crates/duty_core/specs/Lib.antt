@@ -2,11 +2,9 @@ pub mod Activity
 pub mod Params
 pub mod History
 pub mod RestRun
-pub mod UnitedStates
 pub mod Lawful
 pub mod HistoryLaws
 pub mod RunLaws
-pub mod BaseLaws
 pub mod Day
 pub mod Stretch
 pub mod Counting

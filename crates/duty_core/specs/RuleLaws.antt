@@ -11,7 +11,6 @@ use Rattle.duty_core.specs.declared.rule.Rule.TheVariants.{UsDrive11}
 use Rattle.duty_core.specs.Marks.{IsSplitAt}
 use Rattle.duty_core.specs.RuleBooks.{Keeps}
 use Rattle.duty_core.specs.RestRun.{IsLongRun}
-use Rattle.duty_core.specs.UnitedStates.{IsUsBase, KeepsUsDrive11}
 use Rattle.duty_core.specs.HistoryLaws.{AreAlike, alike_back, IsRule}
 use Rattle.duty_core.specs.RunLaws.{run_alike, long_alike}
 use Rattle.duty_core.specs.Counting.{IsLastEnd, CountsInDays, IsDaysBase}
@@ -177,46 +176,3 @@ ca_70without24_is_rule cycle = record {
   local = λ p q n i g l h c d from b. count_alike works p q n i from _ g l (h c (g.units i l ∙ d) from (last_end_alike (alike_back g) l b));
   idle = λ p i r c d. absurd (no_driving p i r d);
 }
-
--- # The base without marks
-
--- no mark names a rest run
-abbrev pub NoneMarked : (ℕ → Type 0) → Type 0
-NoneMarked Marked = (k : ℕ) → Marked k → ⊥
-
--- a full rest alone is declared
-full_of : {full : ℕ} {p : List Activity} {Marked : ℕ → Type 0} {a b : ℕ} → NoneMarked Marked → IsDeclared full p Marked a b → IsLongRun full p a b
-full_of none h = elim h [ inl f ↦ f | inr s ↦ absurd (none _ s.marked) ]
-
--- with no marks the base is the end of the last full rest, and nothing is omitted
-pub base_unmarked : (p : List Activity) (Marked : ℕ → Type 0) (i base : ℕ) → NoneMarked Marked → IsUsBase p i base → IsBase US_FULL_REST p Marked i base 0
-base_unmarked p Marked i base none h = inl (record {
-  from = h.from;
-  last = record { declared = inl h.rest; before = h.before; last = λ a b e z. h.last a b (full_of none e) z };
-  rest = h.rest;
-  none = refl;
-})
-
-pub unmarked_base : (p : List Activity) (Marked : ℕ → Type 0) (i base omitted : ℕ) → NoneMarked Marked → IsBase US_FULL_REST p Marked i base omitted → IsUsBase p i base
-unmarked_base p Marked i base omitted none h = elim h [
-  | inl f ↦ record { from = f.from; rest = f.rest; before = f.last.before; last = λ a b e z. f.last.last a b (inl e) z }
-  | inr s ↦ absurd (none s.from s.waits.split.marked)
-]
-
--- US-DRIVE11 without marks says what it says of full rests alone
-pub drive11_unmarked : (p : List Activity) (Marked : ℕ → Type 0) (i : ℕ) → NoneMarked Marked → KeepsUsDrive11 p i → MeetsUsDrive11 p Marked i
-drive11_unmarked p Marked i none h d base omitted b = h d base (unmarked_base p Marked i base omitted none b)
-
-pub unmarked_drive11 : (p : List Activity) (Marked : ℕ → Type 0) (i : ℕ) → NoneMarked Marked → MeetsUsDrive11 p Marked i → KeepsUsDrive11 p i
-unmarked_drive11 p Marked i none h d base b = h d base 0 (base_unmarked p Marked i base none b)
-
--- an empty list of marks names no run
-pub none_split : (params : Params) (first : ℕ) → NoneMarked (IsSplitAt params first [])
-none_split params first k h = let l = h.marked.1 in absurd (omega arith)
-
--- and so it is for a whole history
-pub keeps_drive11_unmarked : (params : Params) (first : ℕ) (h : List Activity) → ((i : ℕ) → KeepsUsDrive11 (padded params h) i) ↔ Keeps params first h [] UsDrive11
-keeps_drive11_unmarked params first h = (
-  (λ k i. drive11_unmarked (padded params h) (IsSplitAt params first []) i (none_split params first) (k i)),
-  (λ k i. unmarked_drive11 (padded params h) (IsSplitAt params first []) i (none_split params first) (k i)),
-)

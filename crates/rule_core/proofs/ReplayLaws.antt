@@ -102,7 +102,7 @@ pub record IsReplaying {S : Type 0} (params : Params) (nexts : S → ℕ → Act
 lawful_by : {S : Type 0} (params : Params) (nexts : S → ℕ → Activity → List (Next S)) (start : S) (first : ℕ) (h : List Activity) (roots : List (Root S)) →
     IsExact params nexts start first → IsTimed params first h → AreReached (unit_minutes params) nexts start first h roots → 0 < length roots → IsLawful params first h
 lawful_by params nexts start first h [] exact timed here some = absurd (omega arith)
-lawful_by params nexts start first h (root ∷ roots) exact timed here some = record { marks = root.marks; with = (exact h root.marks timed).0 (root.state, here.reached root (inl refl)) }
+lawful_by params nexts start first h (root ∷ roots) exact timed here some = record { marks = root.marks; keeps = (exact h root.marks timed).0 (root.state, here.reached root (inl refl)) }
 
 pub replaying_first : {S : Type 0} (params : Params) (nexts : S → ℕ → Activity → List (Next S)) (start : S) (first : ℕ) (log : List Activity) (roots : List (Root S)) →
     IsExact params nexts start first → IsTimed params first log → roots ≡ record { state = start; marks = [] } ∷ [] → IsReplaying params nexts start first log 0 roots
@@ -151,7 +151,7 @@ pub replaying_ends : {S : Type 0} (params : Params) (nexts : S → ℕ → Activ
 replaying_ends params nexts start first log k roots after exact timed l so here none = record {
   inside = l;
   unlawful = λ law.
-      let reached = (exact (take (k + 1) log) law.marks (timed_part params first log (k + 1) (omega arith) timed)).1 law.with in
+      let reached = (exact (take (k + 1) log) law.marks (timed_part params first log (k + 1) (omega arith) timed)).1 law.keeps in
       subst (λ rs. IsOneOf rs (record { state = reached.0; marks = law.marks })) (nil_from_length after none) (here.all reached.0 law.marks reached.1);
   before = λ m u. so.lawful (m + 1) (omega arith);
 }

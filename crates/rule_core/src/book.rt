@@ -1,5 +1,5 @@
 //! The trait of a rule book, and its laws.
-ghost use Rattle.std.specs.Prelude.{◌≡◌, ◌↔◌, ℕ, ◌+◌, ◌*◌, ◌<◌, ◌≤◌, Bool, true, false, List, [], ◌∷◌, length, replicate, IfOk, IsOk, IsTrue};
+ghost use Rattle.std.specs.Prelude.{◌≡◌, ◌↔◌, ℕ, ◌+◌, ◌*◌, ◌<◌, ◌≤◌, Bool, true, false, List, [], ◌∷◌, ◌++◌, length, replicate, IfOk, IsOk, IsTrue};
 ghost use Rattle.std.specs.Option.{option_to_list};
 ghost use Rattle.duty_core.specs.declared.activity.Activity.{Activity};
 ghost use Rattle.duty_core.specs.declared.mark.Mark.{Mark};
@@ -12,6 +12,7 @@ ghost use Rattle.duty_core.specs.Lawful.{IsLawfulWith};
 ghost use Rattle.rule_core.specs.declared.nexts.Next.{Next};
 ghost use Rattle.rule_core.specs.declared.nexts.Idles.{Idles};
 ghost use Rattle.rule_core.specs.Reach.{listed, idle_list, IsOneOf, Reaches, IsAnswered};
+ghost use Rattle.rule_core.specs.Refusal.{IsRefused};
 
 use crate::nexts::{Idles, Next, Nexts};
 use duty_core::{Activity, LONGEST_HISTORY, MINUTE_LIMIT, Minute, NoMemory, Params};
@@ -67,6 +68,9 @@ pub trait RuleBook {
         ensures frugal { IsTrue FRUGAL → IsOk result };
 
     /// The states after one unit that begins at `at`, each with the mark that was chosen there.
+    ///
+    /// There is none exactly where the history with that unit is lawful neither with the marks chosen
+    /// so far nor with these and one more that is first possible at that unit.
     fn step(
         &self,
         state: &Self::State,
@@ -76,6 +80,10 @@ pub trait RuleBook {
         requires state { is_state_at self.now state.now at }
         requires range { at + unit_minutes (params_of self.now) < MINUTE_LIMIT }
         ensures nexts { IfOk result (λ n. listed n ≡ nexts_of self.now state.now at act) }
+        ensures refused { IfOk result (λ n. (first : ℕ) (h : List Activity) (marks : List Mark) →
+            IsTimed (params_of self.now) first (h ++ act ∷ []) → first + unit_minutes (params_of self.now) * length h ≡ at →
+            Reaches (unit_minutes (params_of self.now)) (nexts_of self.now) (root_of self.now first) first h marks state.now →
+            (listed n ≡ []) ↔ IsRefused (params_of self.now) first h marks act) }
         ensures frugal { IsTrue FRUGAL → IsOk result };
 
     /// The states after `n` equal units, from 1 to 50,400, the first of which begins at `at`.
@@ -113,6 +121,11 @@ pub trait RuleBook {
     /// A history is reached from the root by a path that chooses these marks exactly where it is lawful with them.
     ghost exact: { (book : Self) (first : ℕ) (h : List Activity) (marks : List Mark) → IsTimed (params_of book) first h →
         ((s : Self.State) × Reaches (unit_minutes (params_of book)) (nexts_of book) (root_of book first) first h marks s) ↔ IsLawfulWith (params_of book) first h marks };
+
+    /// A state that a history reaches with these marks has no successors exactly where no marks help the unit.
+    ghost refuses: { (book : Self) (first : ℕ) (h : List Activity) (marks : List Mark) (s : Self.State) (x : Activity) → IsTimed (params_of book) first (h ++ x ∷ []) →
+        Reaches (unit_minutes (params_of book)) (nexts_of book) (root_of book first) first h marks s →
+        (nexts_of book s (first + unit_minutes (params_of book) * length h) x ≡ []) ↔ IsRefused (params_of book) first h marks x };
 
     /// What `advance` gives is reached by single steps.
     ghost advances_reach: { (book : Self) (s : Self.State) (at : ℕ) (x : Activity) (n : ℕ) (t : Next Self.State) →

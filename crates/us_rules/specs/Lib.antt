@@ -1,3 +1,12 @@
 pub mod Machine
-pub mod Tracks
-pub mod Laws
+pub mod Padding
+pub mod BreakGuard
+pub mod WeekGuard
+pub mod Paths
+pub mod Places
+pub mod Exact
+pub mod States
+pub mod Advance
+pub mod Covers
+pub mod Single
+pub mod Ends

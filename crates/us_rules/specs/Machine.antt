@@ -1,66 +1,131 @@
 -- The machine of the United States: states, successors, and many equal units.
-use Rattle.std.specs.Prelude.{◌≡◌, ℕ, ◌+◌, ◌≤◌, zero, suc, Bool, List, [], ◌∷◌, Option, None, Some, nat_eq, nat_lt, flat_map, ◌&&◌, if◌then◌else◌}
+use Rattle.std.specs.Prelude.{◌≡◌, ℕ, ◌+◌, ◌-◌, ◌%◌, ◌≤◌, ◌⊎◌, zero, suc, min, sum, length, replicate, Bool, true, cond, List, [], ◌∷◌, ◌++◌, map, flat_map, Option, None, Some, nat_eq, nat_lt, nat_le, ◌==◌, ◌&&◌, if◌then◌else◌}
+use Rattle.std.specs.Option.{option_to_list}
 use Rattle.duty_core.specs.declared.activity.Activity.{Activity}
 use Rattle.duty_core.specs.declared.activity.Activity.TheVariants.{Drive, Serve, Wait, Off, Berth}
-use Rattle.duty_core.specs.declared.limits.TheConstants.{US_FULL_REST, US_DRIVING_LIMIT}
+use Rattle.duty_core.specs.declared.mark.Mark.{Mark}
+use Rattle.duty_core.specs.declared.mark.Mark.TheVariants.{SplitRest}
+use Rattle.duty_core.specs.declared.limits.TheConstants.{DAY_MINUTES, US_WINDOW_LIMIT, US_DRIVING_LIMIT, US_BREAK, US_UNBROKEN_LIMIT, US_RESTART}
+use Rattle.duty_core.specs.Activity.{rests, drives}
+use Rattle.duty_core.specs.UsRules.{us_week_limit}
 use Rattle.rule_core.specs.declared.nexts.Next.{Next}
 use Rattle.rule_core.specs.declared.nexts.Idles.{Idles}
+use Rattle.day_sums.specs.Sums.{added, today}
+use Rattle.day_sums.specs.Counted.{turned, after_rest}
+use Rattle.sleeper_split.specs.declared.rule.TheConstants.SplitRule.{US}
+use Rattle.sleeper_split.specs.declared.count.SplitCount.{SplitCount}
+use Rattle.sleeper_split.specs.declared.count.Since.TheVariants.{Driving, Elapsed}
+use Rattle.sleeper_split.specs.Machine.{IsSplitCount, fresh_count, after_duty, end_undeclared, end_split, end_full, used_of, run_of}
+use Rattle.sleeper_split.specs.Choices.{Choice, choices, sleeps}
+use Rattle.us_rules.specs.declared.state.BreakCount.{BreakCount}
+use Rattle.us_rules.specs.declared.state.WeekCount.{WeekCount}
 use Rattle.us_rules.specs.declared.state.UsState.{UsState}
 
--- The numbers of a state are in range, and at a full rest nothing is driven.
-pub record IsUsState (s : UsState) : Type 0 where
-  pub rest : s.rest ≤ US_FULL_REST
-  pub driven : s.driven ≤ US_DRIVING_LIMIT
-  pub fresh : s.rest ≡ US_FULL_REST → s.driven ≡ 0
+-- # Full and split rests
 
-abbrev pub made : ℕ → ℕ → UsState
-made rest driven = record { rest = rest; driven = driven }
+-- at a unit of driving: the window of fourteen hours, and eleven hours of driving
+abbrev pub us_fits : SplitCount → Bool
+us_fits s = nat_le (used_of Elapsed s) US_WINDOW_LIMIT && nat_le (used_of Driving s) US_DRIVING_LIMIT
 
--- a full rest, and nothing driven
-abbrev pub root_state : UsState
-root_state = made US_FULL_REST 0
+-- # Breaks
 
--- after one more unit of rest
-abbrev pub rested : UsState → UsState
-rested s = if nat_lt (s.rest + 1) US_FULL_REST then made (s.rest + 1) s.driven else root_state
+abbrev pub break_made : ℕ → ℕ → BreakCount
+break_made still driven = record { still = still; driven = driven }
 
--- after one more unit of duty that is no driving
-abbrev pub worked : UsState → UsState
-worked s = made 0 s.driven
+-- after one more unit without driving
+abbrev pub paused : BreakCount → BreakCount
+paused c = if nat_lt (c.still + 1) US_BREAK then break_made (c.still + 1) c.driven else break_made US_BREAK 0
 
--- after one more unit of driving, which the limit may refuse
-abbrev pub drove : UsState → Option UsState
-drove s = if nat_lt s.driven US_DRIVING_LIMIT then Some (made 0 (s.driven + 1)) else None
+abbrev pub break_after : BreakCount → ℕ → Activity → BreakCount
+break_after c at x = cond (drives x) (break_made 0 (c.driven + 1)) (paused c)
 
--- after one more unit
-abbrev pub state_after : UsState → Activity → Option UsState
-state_after s Drive = drove s
-state_after s Serve = Some (worked s)
-state_after s Wait = Some (worked s)
-state_after s Off = Some (rested s)
-state_after s Berth = Some (rested s)
+-- whether eight hours of driving without a break allow the unit
+abbrev pub break_ok : BreakCount → ℕ → Activity → Bool
+break_ok c at x = cond (drives x) (nat_lt c.driven US_UNBROKEN_LIMIT) true
 
--- a successor with no mark
-abbrev pub unmarked : UsState → Next UsState
-unmarked s = record { state = s; mark = None }
+-- # Weeks
 
--- at most one successor, with no mark
-abbrev pub only : Option UsState → List (Next UsState)
-only None = []
-only (Some s) = unmarked s ∷ []
+abbrev pub week_made : ℕ → List ℕ → WeekCount
+week_made rest sums = record { rest = rest; sums = sums }
 
--- the successors by a unit of this activity
-abbrev pub nexts_after : UsState → Activity → List (Next UsState)
-nexts_after s x = only (state_after s x)
+-- whether a day begins at this minute
+abbrev pub begins_day : ℕ → ℕ → Bool
+begins_day day_start at = (at + (DAY_MINUTES - day_start)) % DAY_MINUTES == 0
 
--- what so many equal units lead to
-abbrev pub advance_from : UsState → Activity → ℕ → List (Next UsState)
-advance_from s x zero = unmarked s ∷ []
-advance_from s x (suc n) = flat_map (λ t. advance_from t.state x n) (nexts_after s x)
+-- after one more unit of rest, with the sums of the days of that unit
+abbrev pub week_rested : ℕ → List ℕ → WeekCount
+week_rested rest sums = week_made (min (rest + 1) US_RESTART) (after_rest US_RESTART (rest + 1) sums)
 
--- equal states
-abbrev pub covers_state : UsState → UsState → Bool
-covers_state a b = nat_eq a.rest b.rest && nat_eq a.driven b.driven
+abbrev pub week_after : ℕ → WeekCount → ℕ → Activity → WeekCount
+week_after day_start c at x = cond (rests x) (week_rested c.rest (turned (begins_day day_start at) c.sums)) (week_made 0 (added 1 (turned (begins_day day_start at) c.sums)))
+
+-- whether the duty of the week allows the unit
+abbrev pub week_ok : ℕ → ℕ → WeekCount → ℕ → Activity → Bool
+week_ok days day_start c at x = cond (drives x) (nat_le (sum (week_after day_start c at x).sums) (us_week_limit days)) true
+
+-- # States
+
+abbrev pub us_made : SplitCount → BreakCount → WeekCount → UsState
+us_made count rest_break week = record { split = count; rest_break = rest_break; week = week }
+
+-- behind the rest before a history
+abbrev pub root_state : ℕ → UsState
+root_state days = us_made fresh_count (break_made US_BREAK 0) (week_made US_RESTART (replicate days 0))
+
+-- the mark of a run that was declared as a split rest and began at this minute
+abbrev pub mark_of : Bool → ℕ → Option Mark
+mark_of declared start = cond declared (Some (SplitRest start)) None
+
+-- the successor by a choice
+abbrev pub us_next : BreakCount → WeekCount → ℕ → Choice → Next UsState
+us_next rest_break week start c = record { state = us_made c.count rest_break week; mark = mark_of c.split start }
+
+-- the successors by a unit that begins at this minute
+abbrev pub us_nexts : Bool → ℕ → ℕ → UsState → ℕ → Activity → List (Next UsState)
+us_nexts berth days day_start s at x =
+    if break_ok s.rest_break at x && week_ok days day_start s.week at x
+    then map (us_next (break_after s.rest_break at x) (week_after day_start s.week at x) (at - run_of s.split)) (choices US berth us_fits s.split x)
+    else []
+
+-- # Many equal units
+
+-- the first successor, without its mark
+abbrev pub first_of : List (Next UsState) → Option UsState
+first_of [] = None
+first_of (n ∷ ns) = Some n.state
+
+-- where more units lead a state, each to its first successor
+abbrev pub goes_on : Bool → ℕ → ℕ → Option UsState → ℕ → Activity → ℕ → Option UsState
+goes_on berth days day_start None at x n = None
+goes_on berth days day_start (Some s) at x zero = Some s
+goes_on berth days day_start (Some s) at x (suc n) = goes_on berth days day_start (first_of (us_nexts berth days day_start s at x)) (at + 1) x n
+
+-- the successor by many units, with the mark that the first one chose
+abbrev pub marked_next : Option Mark → Option UsState → List (Next UsState)
+marked_next mark None = []
+marked_next mark (Some s) = record { state = s; mark = mark } ∷ []
+
+-- what so many equal units lead to: a mark can be chosen at the first of them only
+abbrev pub us_advances : Bool → ℕ → ℕ → UsState → ℕ → Activity → ℕ → List (Next UsState)
+us_advances berth days day_start s at x zero = marked_next None (Some s)
+us_advances berth days day_start s at x (suc n) = flat_map (λ t. marked_next t.mark (goes_on berth days day_start (Some t.state) (at + 1) x n)) (us_nexts berth days day_start s at x)
+
+-- # What a state is
+
+-- the minutes of the day of the minute before this one, up to this one
+abbrev pub day_so_far : ℕ → ℕ → ℕ
+day_so_far day_start at = (at + (DAY_MINUTES - day_start) + (DAY_MINUTES - 1)) % DAY_MINUTES + 1
+
+-- The numbers of a state at this minute are in range, and the youngest day holds no more duty than minutes so far.
+pub record IsUsState (days day_start : ℕ) (s : UsState) (at : ℕ) : Type 0 where
+  pub split : IsSplitCount s.split
+  pub still : s.rest_break.still ≤ US_BREAK
+  pub driven : s.rest_break.driven ≤ US_UNBROKEN_LIMIT
+  pub rest : s.week.rest ≤ US_RESTART
+  pub days_counted : length s.week.sums ≡ days
+  pub day : today s.week.sums ≤ day_so_far day_start at
+
+-- # Idle activities
 
 -- the tour's own rest, and waiting
 abbrev pub us_idles : Bool → Idles

@@ -1,23 +1,42 @@
 //! The rule book.
-ghost use Rattle.std.specs.Prelude.{◌≡◌, ◌⊎◌, ℕ, ◌+◌, ◌<◌, ◌≤◌, true};
+ghost use Rattle.std.specs.Prelude.{◌≡◌, ◌⊎◌, ℕ, ◌+◌, ◌-◌, ◌<◌, ◌≤◌, Bool, true, cond, map, sum, nat_le, IfSome};
 ghost use Rattle.duty_core.specs.declared.params.Params.TheVariants.{UsProperty};
+ghost use Rattle.duty_core.specs.declared.limits.TheConstants.{DAY_MINUTES, US_RESTART, US_SHORT_WEEK, MINUTE_LIMIT};
+ghost use Rattle.duty_core.specs.Activity.{drives};
+ghost use Rattle.duty_core.specs.UsRules.{us_week_limit};
+ghost use Rattle.day_sums.specs.Sums.{today};
+ghost use Rattle.day_sums.specs.Counted.{turned};
 ghost use Rattle.rule_core.specs.Reach.{listed};
-ghost use Rattle.us_rules.specs.Machine.{IsUsState, root_state, only, nexts_after, advance_from, covers_state, us_idles};
-ghost use Rattle.us_rules.specs.Laws.{root_is_us_state, next_is_us_state, us_exact, us_advances_reach, us_advances_all, us_covers_itself, us_covers_on, us_simulation, us_idles_allowed, us_idles_cover};
+ghost use Rattle.us_rules.specs.Machine.{IsUsState, root_state, begins_day, week_after, week_ok, us_nexts, us_advances, first_of, goes_on, us_idles};
+ghost use Rattle.us_rules.specs.Ends.{next_with, nexts_made, first_next, onward};
+ghost use Rattle.us_rules.specs.Covers.{same_used, same_run, same_waiting, same_split, same_break, same_week, covers_state, us_covers_itself, us_covers_on, us_simulation, us_idles_allowed, us_idles_cover};
+ghost use Rattle.us_rules.specs.States.{some_days, root_is_us_state, next_is_us_state};
+ghost use Rattle.us_rules.specs.Advance.{us_advances_reach, us_advances_all};
+ghost use Rattle.us_rules.specs.Exact.{us_exact};
+ghost use Rattle.us_rules.specs.Single.{us_refuses};
 
-use crate::state::UsState;
-use duty_core::{Activity, Minute, NoMemory, Params};
+use crate::ends::Ends;
+use crate::state::{BreakCount, UsState, WeekCount};
+use day_sums::DaySums;
+use duty_core::{
+    Activity, DAY_MINUTES, Mark, Minute, NoMemory, Params, US_LONG_WEEK_LIMIT, US_RESTART,
+    US_SHORT_WEEK, US_SHORT_WEEK_LIMIT, is_rest,
+};
 use rule_core::{Idles, Next, Nexts, RuleBook};
+use sleeper_split::{OpenRun, SplitCount, Used, WaitingRest};
 
-/// The rule book of the United States, property-carrying (49 CFR 395.3).
+/// The rule book of the United States, property-carrying (49 CFR 395.3 and 395.1(g)(1)): the window
+/// of fourteen hours, eleven hours of driving, a break after eight, sixty or seventy hours of duty
+/// in a week with its restart, and split rests in the berth, two by two.
 ///
-/// It knows two rules: a full rest is ten consecutive hours, and driving since the last one is at
-/// most eleven hours. No rest is split, so it chooses no marks. No call takes memory.
-#[derive(Clone, Copy, Debug, PartialEq, Eq)]
+/// Where a rest run ends that may be a split rest, a state has two successors: without the mark of
+/// that run, and with it. No call takes memory.
+#[derive(Clone, Copy)]
 pub struct UsBook {
     berth: bool,
     days: u8,
     day_start: u16,
+    ghost week: { (US_SHORT_WEEK ≤ days) × (days ≤ 8) },
 }
 
 impl UsBook {
@@ -36,17 +55,216 @@ impl UsBook {
             day_start,
         }
     }
+
+    /// Whether a day begins at this minute.
+    fn begins_day(&self, at: Minute) -> bool
+        requires { at < MINUTE_LIMIT }
+        ensures { result ≡ begins_day self.now.day_start at }
+    {
+        (at + DAY_MINUTES.saturating_sub(u32::from(self.day_start))) % DAY_MINUTES == 0
+    }
+
+    /// The counts of the week after the minute `at`.
+    fn week_after(&self, week: &WeekCount, at: Minute, act: Activity) -> WeekCount
+        requires range { at < MINUTE_LIMIT }
+        requires rest { week.now.rest ≤ US_RESTART }
+        requires day { today (turned (begins_day self.now.day_start at) week.now.sums) + 1 ≤ DAY_MINUTES }
+        ensures { result ≡ week_after self.now.day_start week.now at act }
+    {
+        let mut sums = week.sums;
+        if self.begins_day(at) {
+            sums.roll_day();
+        }
+        if is_rest(act) {
+            if week.rest + 1 >= US_RESTART {
+                sums.reset();
+            }
+            WeekCount {
+                rest: US_RESTART.min(week.rest + 1),
+                sums,
+            }
+        } else {
+            sums.add(1);
+            WeekCount { rest: 0, sums }
+        }
+    }
+
+    /// Whether the duty of the week, with this minute, lets it be.
+    fn week_allows(&self, after: &WeekCount, act: Activity) -> bool
+        ensures { result ≡ cond (drives act) (nat_le (sum after.now.sums) (us_week_limit self.now.days)) true }
+    {
+        let limit = if u32::from(self.days) == US_SHORT_WEEK {
+            US_SHORT_WEEK_LIMIT
+        } else {
+            US_LONG_WEEK_LIMIT
+        };
+        !matches!(act, Activity::Drive) || after.sums.total() <= limit
+    }
 }
 
-/// The successor with no mark, if there is one.
-fn only_next(state: Option<UsState>) -> Nexts<UsState>
-    ensures { listed result ≡ only state }
+/// The successor by these counts, if they are there, with the mark of the run that ended as a split
+/// rest.
+fn next_by(
+    count: Option<SplitCount>,
+    rest_break: BreakCount,
+    week: &WeekCount,
+    mark: Option<Mark>,
+) -> Option<Next<UsState>>
+    ensures { result ≡ next_with count rest_break week.now mark }
 {
-    Nexts {
-        a: state.map(|state| Next { state, mark: None }),
-        b: None,
-        c: None,
+    let split = count?;
+    Some(Next {
+        state: UsState {
+            split,
+            rest_break,
+            week: WeekCount {
+                rest: week.rest,
+                sums: week.sums,
+            },
+        },
+        mark,
+    })
+}
+
+/// No successor.
+const NONE: Nexts<UsState> = Nexts {
+    a: None,
+    b: None,
+    c: None,
+};
+
+impl UsBook {
+    /// The successors by a minute of this activity.
+    fn nexts(&self, state: &UsState, at: Minute, act: Activity) -> Nexts<UsState>
+        requires state { IsUsState self.now.days self.now.day_start state.now at }
+        requires range { at < MINUTE_LIMIT }
+        ensures { listed result ≡ us_nexts self.now.berth self.now.days self.now.day_start state.now at act }
+    {
+        let week = self.week_after(&state.week, at, act);
+        if !state.rest_break.allows(act) || !self.week_allows(&week, act) {
+            return NONE;
+        }
+        let rest_break = state.rest_break.after(act);
+        let at_start = Mark::SplitRest {
+            at: at.saturating_sub(state.split.run().long),
+        };
+        let ends = Ends::of(self.berth, state.split, act);
+        Nexts {
+            a: next_by(ends.plain, rest_break, &week, None),
+            b: next_by(ends.split, rest_break, &week, Some(at_start)),
+            c: next_by(ends.full, rest_break, &week, None),
+        }
     }
+
+    /// The first successor, without its mark.
+    fn first_next(&self, state: &UsState, at: Minute, act: Activity) -> Option<UsState>
+        requires state { IsUsState self.now.days self.now.day_start state.now at }
+        requires range { at < MINUTE_LIMIT }
+        ensures { result ≡ first_of (us_nexts self.now.berth self.now.days self.now.day_start state.now at act) }
+    {
+        let Nexts { a, b, c } = self.nexts(state, at, act);
+        first_state(a, b, c)
+    }
+
+    /// Where `n` more minutes lead a state, each to its first successor.
+    fn goes_on(&self, state: UsState, at: Minute, act: Activity, n: u32) -> Option<UsState>
+        requires state { IsUsState self.now.days self.now.day_start state at }
+        requires range { at + n ≤ MINUTE_LIMIT }
+        ensures { result ≡ goes_on self.now.berth self.now.days self.now.day_start (Some state) at act n }
+    {
+        let mut state = state;
+        for k in 0..n {
+            state = self.first_next(&state, at + k, act)?;
+        }
+        Some(state)
+    }
+
+    /// Where `n` more minutes lead a successor, which keeps its mark.
+    fn onward(
+        &self,
+        next: Option<Next<UsState>>,
+        at: Minute,
+        act: Activity,
+        n: u32,
+    ) -> Option<Next<UsState>>
+        requires state { IfSome next (λ t. IsUsState self.now.days self.now.day_start t.state at) }
+        requires range { at + n ≤ MINUTE_LIMIT }
+        ensures { result ≡ onward self.now.berth self.now.days self.now.day_start next at act n }
+    {
+        let Next { state, mark } = next?;
+        let state = self.goes_on(state, at, act, n)?;
+        Some(Next { state, mark })
+    }
+}
+
+/// The state of the first of these successors that is there.
+fn first_state(
+    a: Option<Next<UsState>>,
+    b: Option<Next<UsState>>,
+    c: Option<Next<UsState>>,
+) -> Option<UsState>
+    ensures { result ≡ first_next (nexts_made a b c) }
+{
+    match (a, b, c) {
+        (Some(next), _, _) | (None, Some(next), _) | (None, None, Some(next)) => Some(next.state),
+        (None, None, None) => None,
+    }
+}
+
+/// Whether two states are equal.
+fn same_state(a: &UsState, b: &UsState) -> bool
+    ensures { result ≡ covers_state a.now b.now }
+{
+    same_split(a.split, b.split)
+        && (same_break(a.rest_break, b.rest_break) && same_week(&a.week, &b.week))
+}
+
+/// Whether two counts of split rests are equal.
+fn same_split(a: SplitCount, b: SplitCount) -> bool
+    ensures { result ≡ same_split a b }
+{
+    same_run(a.run(), b.run())
+        && (same_used(a.base(), b.base())
+            && (same_used(a.last(), b.last()) && same_waiting(a.waiting(), b.waiting())))
+}
+
+/// Whether two rest runs in progress are equal.
+fn same_run(a: OpenRun, b: OpenRun) -> bool
+    ensures { result ≡ same_run a b }
+{
+    a.long == b.long && (a.stretch == b.stretch && a.longest == b.longest)
+}
+
+/// Whether two counts from a place on are equal.
+fn same_used(a: Used, b: Used) -> bool
+    ensures { result ≡ same_used a b }
+{
+    a.driving == b.driving && (a.duty == b.duty && a.elapsed == b.elapsed)
+}
+
+/// Whether two split rests that wait are equal, or none waits.
+fn same_waiting(a: Option<WaitingRest>, b: Option<WaitingRest>) -> bool
+    ensures { result ≡ same_waiting a b }
+{
+    match (a, b) {
+        (None, None) => true,
+        (Some(a), Some(b)) => a.long == b.long && a.berth == b.berth,
+        _ => false,
+    }
+}
+
+/// Whether two counts of breaks are equal.
+fn same_break(a: BreakCount, b: BreakCount) -> bool
+    ensures { result ≡ same_break a b }
+{
+    a.still == b.still && a.driven == b.driven
+}
+
+/// Whether two counts of the week are equal.
+fn same_week(a: &WeekCount, b: &WeekCount) -> bool
+    ensures { result ≡ same_week a.now b.now }
+{
+    a.rest == b.rest && a.sums.sums() == b.sums.sums()
 }
 
 impl RuleBook for UsBook {
@@ -58,13 +276,13 @@ impl RuleBook for UsBook {
 
     ghost params_of = { λ book. UsProperty book.berth book.days book.day_start };
 
-    ghost is_state_at = { λ book s at. IsUsState s };
+    ghost is_state_at = { λ book s at. IsUsState book.days book.day_start s at };
 
-    ghost root_of = { λ book first. root_state };
+    ghost root_of = { λ book first. root_state book.days };
 
-    ghost nexts_of = { λ book s at x. nexts_after s x };
+    ghost nexts_of = { λ book s at x. us_nexts book.berth book.days book.day_start s at x };
 
-    ghost advances_of = { λ book s at x n. advance_from s x n };
+    ghost advances_of = { λ book s at x n. us_advances book.berth book.days book.day_start s at x n };
 
     ghost covering = { λ book a b at. covers_state a b };
 
@@ -79,34 +297,54 @@ impl RuleBook for UsBook {
     }
 
     fn root(&self, _first: Minute) -> Result<UsState, NoMemory> {
-        Ok(UsState::FRESH)
+        Ok(UsState {
+            split: SplitCount::fresh(),
+            rest_break: BreakCount::FRESH,
+            week: WeekCount {
+                rest: US_RESTART,
+                sums: DaySums::new(self.days),
+            },
+        })
     }
 
     fn copy(&self, state: &UsState) -> Result<UsState, NoMemory> {
-        Ok(*state)
+        Ok(UsState {
+            split: state.split,
+            rest_break: state.rest_break,
+            week: WeekCount {
+                rest: state.week.rest,
+                sums: state.week.sums,
+            },
+        })
     }
 
     fn step(
         &self,
         state: &UsState,
-        _at: Minute,
+        at: Minute,
         act: Activity,
     ) -> Result<Nexts<UsState>, NoMemory> {
-        Ok(only_next(state.after(act)))
+        Ok(self.nexts(state, at, act))
     }
 
     fn advance(
         &self,
         state: &UsState,
-        _at: Minute,
+        at: Minute,
         act: Activity,
         n: u32,
     ) -> Result<Nexts<UsState>, NoMemory> {
-        Ok(only_next(state.after_all(act, n)))
+        // Only the first minute may choose a mark.
+        let Nexts { a, b, c } = self.nexts(state, at, act);
+        Ok(Nexts {
+            a: self.onward(a, at + 1, act, n - 1),
+            b: self.onward(b, at + 1, act, n - 1),
+            c: self.onward(c, at + 1, act, n - 1),
+        })
     }
 
     fn covers(&self, a: &UsState, b: &UsState, _at: Minute) -> bool {
-        a == b
+        same_state(a, b)
     }
 
     fn idles(&self, _state: &UsState) -> Idles {
@@ -121,23 +359,25 @@ impl RuleBook for UsBook {
         }
     }
 
-    ghost root_is_state = { λ book first begins. root_is_us_state };
+    ghost root_is_state = { λ book first begins. root_is_us_state book.days book.day_start first };
 
-    ghost next_is_state = { λ book s at x n. next_is_us_state s x n };
+    ghost next_is_state = { λ book s at x n. next_is_us_state book.berth book.days book.day_start s at x n };
 
-    ghost exact = { λ book first h marks timed. us_exact book.berth book.days book.day_start first h marks };
+    ghost exact = { λ book first h marks timed. us_exact book.berth book.days book.day_start first h marks (some_days book.days book.week) timed };
 
-    ghost advances_reach = { λ book s at x n t i. us_advances_reach n s at x t };
+    ghost refuses = { λ book first h marks s x timed r. us_refuses book.berth book.days book.day_start first h marks s x (some_days book.days book.week) timed r };
 
-    ghost advances_all = { λ book s at x n marks u i. us_advances_all n s at x marks u };
+    ghost advances_reach = { λ book s at x n t i. us_advances_reach book.berth book.days book.day_start n s at x t };
+
+    ghost advances_all = { λ book s at x n marks u i. us_advances_all book.berth book.days book.day_start n s at x marks u };
 
     ghost covers_itself = { λ book s at i. us_covers_itself s };
 
     ghost covers_on = { λ book a b c at i j k. us_covers_on a b c };
 
-    ghost simulation = { λ book a b at x n i j h allowed. us_simulation a b x n h };
+    ghost simulation = { λ book a b at x n i j h allowed. us_simulation book.berth book.days book.day_start a b at x n h };
 
     ghost idles_allowed = { λ book s at y i. us_idles_allowed book.berth book.days book.day_start y };
 
-    ghost idles_cover = { λ book s at x n t i some long. us_idles_cover book.berth book.days book.day_start s x n t };
+    ghost idles_cover = { λ book s at x n t i some long idle allowed o. us_idles_cover book.berth book.days book.day_start s at x n t idle allowed o };
 }

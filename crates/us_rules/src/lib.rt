@@ -1,11 +1,11 @@
-//! The rule book of the United States, for two rules: a full rest of ten hours, and at most eleven
-//! hours of driving between full rests.
+//! The rule book of the United States, property-carrying (49 CFR 395.3 and 395.1(g)(1)).
 #![tactic(auto)]
 
 mod book;
+mod ends;
 mod state;
 #[cfg(test)]
 mod tests;
 
 pub use book::UsBook;
-pub use state::UsState;
+pub use state::{BreakCount, UsState, WeekCount};

@@ -1,67 +1,75 @@
 //! What the book remembers of a history.
-ghost use Rattle.std.specs.Prelude.{◌≡◌};
-ghost use Rattle.us_rules.specs.Machine.{root_state, rested, drove, state_after, only, advance_from};
+ghost use Rattle.std.specs.Prelude.{◌≡◌, ◌+◌, ◌<◌, ◌≤◌};
+ghost use Rattle.day_sums.specs.Sums.{today};
+ghost use Rattle.duty_core.specs.declared.limits.TheConstants.{DAY_MINUTES, US_BREAK, US_UNBROKEN_LIMIT, US_RESTART};
+ghost use Rattle.day_sums.specs.Counted.{turned};
+ghost use Rattle.us_rules.specs.Machine.{break_ok, break_after, week_after};
 
-use duty_core::{Activity, US_DRIVING_LIMIT, US_FULL_REST};
+use day_sums::DaySums;
+use duty_core::{Activity, US_BREAK, US_RESTART, US_UNBROKEN_LIMIT, is_rest};
+use sleeper_split::SplitCount;
 
 /// What the book remembers of a history.
-#[derive(Clone, Copy, Debug, PartialEq, Eq)]
+#[derive(Clone, Copy)]
 pub struct UsState {
-    /// The rest that the history ends with, in minutes, at most a full rest.
-    pub rest: u32,
-    /// The driving since the last full rest, in minutes; 0 while the history ends with a full rest.
+    /// The counts of full rests, split rests and pairs.
+    pub split: SplitCount,
+    /// The counts of breaks from driving.
+    pub rest_break: BreakCount,
+    /// The counts of the week.
+    pub week: WeekCount,
+}
+
+/// The counts of breaks from driving, in minutes.
+#[derive(Clone, Copy, Debug, PartialEq, Eq)]
+pub struct BreakCount {
+    /// The time without driving that the history ends with, at most a break.
+    pub still: u32,
+    /// The driving since the last break.
     pub driven: u32,
 }
 
-impl UsState {
-    /// A full rest, and nothing driven.
-    pub(crate) const FRESH: UsState = UsState {
-        rest: US_FULL_REST,
+/// The counts of the week, in minutes.
+#[derive(Clone, Copy)]
+pub struct WeekCount {
+    /// The rest that the history ends with, at most a restart.
+    pub rest: u32,
+    /// The duty of the days of the week since the last restart, 0 while the history ends with one.
+    pub sums: DaySums,
+}
+
+impl BreakCount {
+    /// A break, and nothing driven since.
+    pub(crate) const FRESH: BreakCount = BreakCount {
+        still: US_BREAK,
         driven: 0,
     };
 
-    /// The state after one more minute, or `None` where the driving limit refuses it.
-    pub(crate) fn after(self, act: Activity) -> Option<UsState>
-        ensures { result ≡ state_after self act }
+    /// Whether one more minute keeps the driving without a break within its limit.
+    pub(crate) fn allows(self, act: Activity) -> bool
+        ensures { result ≡ break_ok self 0 act }
     {
-        match act {
-            Activity::Drive => self.driving(),
-            Activity::Serve | Activity::Wait => Some(UsState { rest: 0, ..self }),
-            Activity::Off | Activity::Berth => Some(self.resting()),
-        }
+        !matches!(act, Activity::Drive) || self.driven < US_UNBROKEN_LIMIT
     }
 
-    /// The state after `n` more minutes of one activity, or `None` where the driving limit refuses
-    /// one of them.
-    pub(crate) fn after_all(self, act: Activity, n: u32) -> Option<UsState>
-        ensures { only result ≡ advance_from self act n }
+    /// The counts after one more minute.
+    pub(crate) fn after(self, act: Activity) -> BreakCount
+        requires still { self.still ≤ US_BREAK }
+        requires driven { self.driven ≤ US_UNBROKEN_LIMIT }
+        ensures { result ≡ break_after self 0 act }
     {
-        let mut state = self;
-        for _ in 0..n {
-            state = state.after(act)?;
-        }
-        Some(state)
-    }
-
-    /// The state after one more minute of rest.
-    fn resting(self) -> UsState
-        ensures { result ≡ rested self }
-    {
-        let rest = self.rest.saturating_add(1);
-        if rest < US_FULL_REST {
-            UsState { rest, ..self }
+        if matches!(act, Activity::Drive) {
+            BreakCount {
+                still: 0,
+                driven: self.driven + 1,
+            }
+        } else if self.still + 1 < US_BREAK {
+            BreakCount {
+                still: self.still + 1,
+                driven: self.driven,
+            }
         } else {
-            UsState::FRESH
+            BreakCount::FRESH
         }
-    }
-
-    /// The state after one more minute of driving, or `None` at the driving limit.
-    fn driving(self) -> Option<UsState>
-        ensures { result ≡ drove self }
-    {
-        (self.driven < US_DRIVING_LIMIT).then(|| UsState {
-            rest: 0,
-            driven: self.driven + 1,
-        })
     }
 }

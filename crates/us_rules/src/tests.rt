@@ -3,14 +3,14 @@ ghost use Rattle.std.specs.Prelude.{◌+◌, ◌*◌, ◌<◌, ◌≤◌, IfOk, 
 ghost use Rattle.duty_core.specs.Params.{unit_minutes};
 
 use crate::book::UsBook;
-use crate::state::UsState;
-use duty_core::{Activity, LONGEST_HISTORY, MINUTE_LIMIT, Minute, NoMemory, Params};
+use crate::state::{BreakCount, UsState};
+use duty_core::{Activity, LONGEST_HISTORY, MINUTE_LIMIT, Mark, Minute, NoMemory, Params};
 use rule_core::{Idles, Nexts, Replayed, Roots, RuleBook, replay};
 use std::alloc::Global;
 use std::test::Fail;
 use timeline::Timeline;
 
-/// The state after so many equal units, or `None` where they are refused.
+/// The first state after so many equal units, or `None` where they are refused.
 fn moved<B: RuleBook>(
     book: &B,
     state: &B::State,
@@ -32,49 +32,33 @@ fn moved<B: RuleBook>(
 }
 
 #[test]
-fn drives_eleven_hours(rt: HostRuntime) -> Result<(), Fail> {
+fn drives_eight_hours_without_a_break(rt: HostRuntime) -> Result<(), Fail> {
     let book = UsBook::new(false, 8, 0);
     let root = book.root(0)?;
-    let short = moved(&book, &root, 0, Activity::Drive, 30)?;
-    assert_eq!(rt;
-        short,
-        Some(UsState {
-            rest: 0,
-            driven: 30
-        })
-    );
-    let shift = moved(&book, &root, 0, Activity::Drive, 480)?;
-    assert_eq!(rt;
-        shift,
-        Some(UsState {
-            rest: 0,
-            driven: 480
-        })
-    );
-    let longest = moved(&book, &root, 0, Activity::Drive, 660)?;
-    assert_eq!(rt;
-        longest,
-        Some(UsState {
-            rest: 0,
-            driven: 660
-        })
-    );
-    let over = moved(&book, &root, 0, Activity::Drive, 661)?;
-    assert_eq!(rt; over, None);
+    let Nexts { a, b, c } = book.advance(&root, 0, Activity::Drive, 480)?;
+    let shift = a.ok_or("refused")?;
+    assert!(rt; shift.mark.is_none() && b.is_none() && c.is_none());
+    let unbroken = BreakCount {
+        still: 0,
+        driven: 480,
+    };
+    assert_eq!(rt; shift.state.rest_break, unbroken);
+    let Nexts { a, b, c } = book.advance(&root, 0, Activity::Drive, 481)?;
+    assert!(rt; a.is_none() && b.is_none() && c.is_none());
     Ok(())
 }
 
 #[test]
-fn rests_ten_hours(rt: HostRuntime) -> Result<(), Fail> {
-    let book = UsBook::new(false, 7, 0);
+fn marks_a_rest_that_may_be_split(rt: HostRuntime) -> Result<(), Fail> {
+    let book = UsBook::new(true, 8, 0);
     let root = book.root(0)?;
-    let tired = moved(&book, &root, 0, Activity::Drive, 660)?.ok_or("refused")?;
-    let short = moved(&book, &tired, 660, Activity::Off, 599)?.ok_or("refused")?;
-    let refused = moved(&book, &short, 1259, Activity::Drive, 1)?;
-    assert_eq!(rt; refused, None);
-    let full = moved(&book, &tired, 660, Activity::Off, 600)?.ok_or("refused")?;
-    let driving = moved(&book, &full, 1260, Activity::Drive, 1)?;
-    assert_eq!(rt; driving, Some(UsState { rest: 0, driven: 1 }));
+    let tired = moved(&book, &root, 0, Activity::Drive, 300)?.ok_or("refused")?;
+    let rested = moved(&book, &tired, 300, Activity::Berth, 420)?.ok_or("refused")?;
+    let Nexts { a, b, c } = book.step(&rested, 720, Activity::Drive)?;
+    let plain = a.ok_or("refused")?;
+    let split = b.ok_or("no split rest")?;
+    assert!(rt; plain.mark.is_none() && c.is_none());
+    assert_eq!(rt; split.mark, Some(Mark::SplitRest { at: 300 }));
     Ok(())
 }
 
@@ -90,11 +74,9 @@ fn answers_each_call(rt: HostRuntime) -> Result<(), Fail> {
     let root = book.root(0)?;
     let copy = book.copy(&root)?;
     assert!(rt; book.covers(&root, &copy, 0));
-    let Nexts { a, b, c } = book.step(&root, 0, Activity::Drive)?;
-    assert!(rt; b.is_none() && c.is_none());
-    let first = a.ok_or("refused")?;
-    assert_eq!(rt; first.state, UsState { rest: 0, driven: 1 });
-    assert_eq!(rt; first.mark, None);
+    let driving = moved(&book, &root, 0, Activity::Drive, 1)?.ok_or("refused")?;
+    let root = book.root(1)?;
+    assert!(rt; !book.covers(&root, &driving, 1));
     let idles = Idles {
         first: Activity::Berth,
         second: Some(Activity::Wait),
@@ -103,80 +85,74 @@ fn answers_each_call(rt: HostRuntime) -> Result<(), Fail> {
     Ok(())
 }
 
-/// What the book says of the log of these runs, which begins at minute 0.
+/// The unit up to which the log of these runs, which begins at minute 0, breaks a rule, or the
+/// number of roots that it leaves.
 fn replayed(
     alloc: Global,
     book: &UsBook,
     parts: &[(Activity, u32)],
-) -> Result<Replayed<UsState>, Fail> {
+) -> Result<Result<usize, u32>, Fail> {
     let mut log = Timeline::new(alloc);
     for (act, n) in parts {
         log.push_run(*act, *n)?;
     }
     let _length = log.len();
-    Ok(replay(alloc, book, &log, 0)?)
-}
-
-/// The states to which a lawful log leads.
-fn roots_of(answer: Replayed<UsState>) -> Option<Roots<UsState>> {
-    match answer {
-        Replayed::Lawful(roots) => Some(roots),
-        Replayed::Unlawful { .. } => None,
+    match replay(alloc, book, &log, 0)? {
+        Replayed::Lawful(roots) => Ok(Ok(roots.len())),
+        Replayed::Unlawful { unit } => Ok(Err(unit)),
     }
 }
 
 #[test]
-fn finds_the_first_minute_over_the_limit(rt: HostRuntime) -> Result<(), Fail> {
+fn counts_the_window_of_fourteen_hours(rt: HostRuntime) -> Result<(), Fail> {
     let book = UsBook::new(false, 8, 0);
-    let too_long = [(Activity::Drive, 720)];
-    let answer = replayed(rt.alloc(), &book, &too_long)?;
-    assert!(rt; matches!(&answer, Replayed::Unlawful { unit: 660 }));
+    let at_its_end = [(Activity::Wait, 839), (Activity::Drive, 1)];
+    assert_eq!(rt; replayed(rt.alloc(), &book, &at_its_end)?, Ok(1));
+    let behind_it = [(Activity::Wait, 840), (Activity::Drive, 1)];
+    assert_eq!(rt; replayed(rt.alloc(), &book, &behind_it)?, Err(840));
+    Ok(())
+}
+
+#[test]
+fn counts_driving_between_full_rests(rt: HostRuntime) -> Result<(), Fail> {
+    let book = UsBook::new(false, 8, 0);
+    let eleven_hours = [
+        (Activity::Drive, 480),
+        (Activity::Serve, 30),
+        (Activity::Drive, 181),
+    ];
+    assert_eq!(rt; replayed(rt.alloc(), &book, &eleven_hours)?, Err(690));
     let short_rest = [
-        (Activity::Drive, 660),
+        (Activity::Drive, 330),
+        (Activity::Wait, 30),
+        (Activity::Drive, 330),
         (Activity::Off, 599),
         (Activity::Drive, 1),
     ];
-    let answer = replayed(rt.alloc(), &book, &short_rest)?;
-    assert!(rt; matches!(&answer, Replayed::Unlawful { unit: 1259 }));
+    assert_eq!(rt; replayed(rt.alloc(), &book, &short_rest)?, Err(1289));
     Ok(())
 }
 
 #[test]
-fn keeps_the_states_of_a_lawful_log(rt: HostRuntime) -> Result<(), Fail> {
-    let book = UsBook::new(false, 8, 0);
-    let two_shifts = [
-        (Activity::Drive, 660),
-        (Activity::Off, 600),
-        (Activity::Drive, 660),
+fn pairs_two_rests(rt: HostRuntime) -> Result<(), Fail> {
+    let berth = UsBook::new(true, 8, 0);
+    let ten_hours = [
+        (Activity::Drive, 300),
+        (Activity::Berth, 420),
+        (Activity::Drive, 300),
+        (Activity::Off, 180),
+        (Activity::Drive, 361),
     ];
-    let answer = replayed(rt.alloc(), &book, &two_shifts)?;
-    let roots = roots_of(answer).ok_or("unlawful")?;
-    assert_eq!(rt; roots.len(), 1);
-    let root = roots.items().first().ok_or("no root")?;
-    assert_eq!(rt;
-        root.state,
-        UsState {
-            rest: 0,
-            driven: 660
-        }
-    );
-    assert_eq!(rt; root.marks.items().len(), 0);
-    Ok(())
-}
-
-#[test]
-fn begins_an_empty_log_rested(rt: HostRuntime) -> Result<(), Fail> {
-    let book = UsBook::new(false, 8, 0);
-    let answer = replayed(rt.alloc(), &book, &[])?;
-    let roots = roots_of(answer).ok_or("unlawful")?;
-    assert_eq!(rt; roots.len(), 1);
-    let root = roots.items().first().ok_or("no root")?;
-    assert_eq!(rt;
-        root.state,
-        UsState {
-            rest: 600,
-            driven: 0
-        }
-    );
+    assert_eq!(rt; replayed(rt.alloc(), &berth, &ten_hours)?, Err(1560));
+    let a_minute_less = [
+        (Activity::Drive, 300),
+        (Activity::Berth, 420),
+        (Activity::Drive, 300),
+        (Activity::Off, 179),
+        (Activity::Drive, 360),
+    ];
+    assert_eq!(rt; replayed(rt.alloc(), &berth, &a_minute_less)?, Err(1259));
+    let no_berth = UsBook::new(false, 8, 0);
+    assert_eq!(rt; replayed(rt.alloc(), &no_berth, &ten_hours)?, Err(840));
     Ok(())
 }

@@ -1,14 +1,19 @@
-use Rattle.std.proofs.Common.{◌≡◌, Bool, subst, ap}
+use Rattle.std.proofs.Common.{◌≡◌, subst}
 use Rattle.std.specs.Prelude.{IfOk}
 use Rattle.duty_core.specs.Params.{has_berth}
-use Rattle.us_rules.specs.Machine.{advance_from, covers_state, us_idles}
-use Rattle.driver_cli.specs.Planning.{problem_of}
-use Rattle.driver_cli.specs.Planned.{IsPlannedBy, IsUsLogState}
+use Rattle.duty_core.specs.Day.{day_start}
+use Rattle.duty_core.specs.RuleBooks.{week_days}
+use Rattle.us_rules.specs.Machine.{root_state, us_nexts, us_advances, us_idles}
+use Rattle.us_rules.specs.Covers.{covers_state}
+use Rattle.driver_cli.specs.Planning.{problem_of, IsLogState}
+use Rattle.driver_cli.specs.Planned.{IsPlannedBy}
 use Rattle.driver_cli.proofs.plan.plan_tour.Goals as goal
 
+-- the book has the tour's parameters
 pub returns : goal.returns
 returns c =
     let tour = c.args.tour.now in
     let log = c.args.log.now in
-    let e : c.args.book.now.berth ≡ has_berth tour.params = ap has_berth c.requires.book in
-    subst (λ berth. IfOk c.plan_by.result (IsPlannedBy tour log (problem_of tour (λ s at x n. advance_from s x n) (λ a b at. covers_state a b) (λ s. us_idles berth)) (IsUsLogState tour log))) e c.plan_by.ensures.planned
+    subst (λ p. IfOk c.plan_by.result (IsPlannedBy tour log
+        (problem_of tour (λ s at x n. us_advances (has_berth p) (week_days p) (day_start p) s at x n) (λ a b at. covers_state a b) (λ s. us_idles (has_berth p)))
+        (IsLogState tour log (root_state (week_days p)) (λ s at x. us_nexts (has_berth p) (week_days p) (day_start p) s at x)))) c.requires.book c.plan_by.ensures.planned
