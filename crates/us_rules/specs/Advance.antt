@@ -38,8 +38,8 @@ steady_choices berth s x h = elim h [
   | inl r ↦ inr (choice (after_rest (sleeps x) s.split) false, ap (λ b. cond b (choice (after_rest (sleeps x) s.split) false ∷ []) (cond (nat_eq (run_of s.split) 0) (at_duty us_fits x false s.split) (run_choices US berth us_fits s.split x))) r, refl)
   | inr d ↦
       let e : choices US berth us_fits s.split x ≡ at_duty us_fits x false s.split =
-          ap (λ b. cond b (choice (after_rest (sleeps x) s.split) false ∷ []) (cond (nat_eq (run_of s.split) 0) (at_duty us_fits x false s.split) (run_choices US berth us_fits s.split x))) d.0
-          ∙ ap (λ b. cond b (at_duty us_fits x false s.split) (run_choices US berth us_fits s.split x)) (no_run (run_of s.split) d.1) in
+      ap (λ b. cond b (choice (after_rest (sleeps x) s.split) false ∷ []) (cond (nat_eq (run_of s.split) 0) (at_duty us_fits x false s.split) (run_choices US berth us_fits s.split x))) d.0
+      ∙ ap (λ b. cond b (at_duty us_fits x false s.split) (run_choices US berth us_fits s.split x)) (no_run (run_of s.split) d.1) in
       subst IsOnly (sym e) (only_test (cond (drives x) (us_fits (after_duty (drives x) s.split)) true) (choice (after_duty (drives x) s.split) false) refl)
 ]
 
@@ -94,8 +94,7 @@ steady_path berth days day_start (suc n) s at x marks u h r = elim (steady_nexts
   | inr k ↦
       let m : Next UsState = record { state = k.0; mark = None } in
       let one : m ≡ r.0 = (let o : IsOneOf (m ∷ []) r.0 = subst (λ ns. IsOneOf ns r.0) k.1 r.1 in elim o [ inl e ↦ e | inr z ↦ absurd z ]) in
-      let q = steady_path berth days day_start n r.0.state (at + 1) x r.2 u (next_steady berth days day_start s at x r.0 r.1) r.4 in
-      (
+      let q = steady_path berth days day_start n r.0.state (at + 1) x r.2 u (next_steady berth days day_start s at x r.0 r.1) r.4 in (
         ap (λ ns. goes_on berth days day_start (first_of ns) (at + 1) x n) k.1 ∙ (ap (λ v. goes_on berth days day_start (Some v) (at + 1) x n) (ap (λ p. p.state) one) ∙ q.0),
         r.3 ∙ (ap (λ p. option_to_list p ++ r.2) (sym (ap (λ p. p.mark) one)) ∙ q.1),
       )
@@ -116,8 +115,7 @@ us_advances_reach berth days day_start zero s at x t o = elim o [
 ]
 us_advances_reach berth days day_start (suc n) s at x t o =
     let q = one_of-flat_map (λ r. marked_next r.mark (goes_on berth days day_start (Some r.state) (at + 1) x n)) (us_nexts berth days day_start s at x) t o in
-    let m = marked_means q.0.mark (goes_on berth days day_start (Some q.0.state) (at + 1) x n) t q.2 in
-    (
+    let m = marked_means q.0.mark (goes_on berth days day_start (Some q.0.state) (at + 1) x n) t q.2 in (
       q.0,
       q.1,
       [],
@@ -130,11 +128,10 @@ pub us_advances_all : (berth : Bool) (days day_start : ℕ) (n : ℕ) (s : UsSta
 us_advances_all berth days day_start zero s at x marks u r = (record { state = s; mark = None }, inl refl, r.0, r.1)
 us_advances_all berth days day_start (suc n) s at x marks u r =
     let q = steady_path berth days day_start n r.0.state (at + 1) x r.2 u (next_steady berth days day_start s at x r.0 r.1) r.4 in
-    let t : Next UsState = record { state = u; mark = r.0.mark } in
-    (
+    let t : Next UsState = record { state = u; mark = r.0.mark } in (
       t,
       one_of_flat_map (λ p. marked_next p.mark (goes_on berth days day_start (Some p.state) (at + 1) x n)) (us_nexts berth days day_start s at x) r.0 t r.1
-      (marked_from r.0.mark (goes_on berth days day_start (Some r.0.state) (at + 1) x n) u q.0),
+          (marked_from r.0.mark (goes_on berth days day_start (Some r.0.state) (at + 1) x n) u q.0),
       refl,
       r.3 ∙ (ap (λ l. option_to_list r.0.mark ++ l) q.1 ∙ append-nil (option_to_list r.0.mark)),
     )

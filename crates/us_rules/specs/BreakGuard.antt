@@ -94,10 +94,10 @@ tracks_paused p x c d h = let z = length-one_more p x in let t = h.there in elim
     longest = longest_still p x c h;
     since = subst (HasBreak (p ++ x ∷ [])) (ap (λ b. c.driven + cond b 1 0) d ∙ (let e : c.driven + 0 ≡ c.driven = omega arith in e))
         (break_on p x c.driven (λ b.
-          let l = s.0 in
-          let u = b.there in
-          let v = longest_still p x c h US_BREAK (omega arith) (omega arith) (λ k a e. b.still k (omega arith) (omega arith)) in
-          absurd (omega arith)) h.since);
+        let l = s.0 in
+        let u = b.there in
+        let v = longest_still p x c h US_BREAK (omega arith) (omega arith) (λ k a e. b.still k (omega arith) (omega arith)) in
+        absurd (omega arith)) h.since);
   })
   | inr s ↦ subst (TracksBreak (p ++ x ∷ [])) (sym s.1) (let l = s.0 in record {
     small = omega arith;

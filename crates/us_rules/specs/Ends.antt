@@ -66,12 +66,12 @@ ends_are berth s x =
     (cond (nat_eq (run_of s) 0) (ends_made (duty_after x (Some s)) None None) (ends_made (duty_after x (end_undeclared US s)) (cond berth (duty_after x (end_split US s)) None) (duty_after x (end_full US s))))
     (choice (after_rest (sleeps x) s) false ∷ []) (cond (nat_eq (run_of s) 0) (at_duty us_fits x false s) (run_choices US berth us_fits s x)) refl
     (by_case (nat_eq (run_of s) 0) (ends_made (duty_after x (Some s)) None None) (ends_made (duty_after x (end_undeclared US s)) (cond berth (duty_after x (end_split US s)) None) (duty_after x (end_full US s)))
-      (at_duty us_fits x false s) (run_choices US berth us_fits s x)
-      (append-nil (chosen false (duty_after x (Some s))) ∙ sym (behind_is x false (Some s)))
-      (ap (λ l. l ++ (chosen true (cond berth (duty_after x (end_split US s)) None) ++ chosen false (duty_after x (end_full US s)))) (sym (behind_is x false (end_undeclared US s)))
-        ∙ ap (λ l. behind_run us_fits x false (end_undeclared US s) ++ l)
-        (ap (λ l. l ++ chosen false (duty_after x (end_full US s))) (sym (allowed_is x berth (end_split US s)))
-          ∙ ap (λ l. cond berth (behind_run us_fits x true (end_split US s)) [] ++ l) (sym (behind_is x false (end_full US s))))))
+    (at_duty us_fits x false s) (run_choices US berth us_fits s x)
+    (append-nil (chosen false (duty_after x (Some s))) ∙ sym (behind_is x false (Some s)))
+    (ap (λ l. l ++ (chosen true (cond berth (duty_after x (end_split US s)) None) ++ chosen false (duty_after x (end_full US s)))) (sym (behind_is x false (end_undeclared US s)))
+    ∙ ap (λ l. behind_run us_fits x false (end_undeclared US s) ++ l)
+    (ap (λ l. l ++ chosen false (duty_after x (end_full US s))) (sym (allowed_is x berth (end_split US s)))
+    ∙ ap (λ l. cond berth (behind_run us_fits x true (end_split US s)) [] ++ l) (sym (behind_is x false (end_full US s))))))
 
 -- # Successors
 
@@ -98,9 +98,9 @@ nexts_are rest_break week start e =
     let c = option_to_list (next_with e.full rest_break week None) in
     ap (λ l. l ++ (b ++ c)) (next_is rest_break week start false e.plain)
     ∙ (ap (λ l. map f (chosen false e.plain) ++ l)
-      (ap (λ l. l ++ c) (next_is rest_break week start true e.split)
-        ∙ (ap (λ l. map f (chosen true e.split) ++ l) (next_is rest_break week start false e.full) ∙ sym (map-append f (chosen true e.split) (chosen false e.full))))
-      ∙ sym (map-append f (chosen false e.plain) (chosen true e.split ++ chosen false e.full)))
+    (ap (λ l. l ++ c) (next_is rest_break week start true e.split)
+    ∙ (ap (λ l. map f (chosen true e.split) ++ l) (next_is rest_break week start false e.full) ∙ sym (map-append f (chosen true e.split) (chosen false e.full))))
+    ∙ sym (map-append f (chosen false e.plain) (chosen true e.split ++ chosen false e.full)))
 
 -- the successors of a state that the guards let pass
 pub nexts_of_ends : (berth : Bool) (days day_start : ℕ) (s : UsState) (at : ℕ) (x : Activity) → break_ok s.rest_break at x ≡ true → week_ok days day_start s.week at x ≡ true →
@@ -168,9 +168,9 @@ advances_are berth days day_start ns at x n =
     let later = option_to_list (onward berth days day_start ns.b at x n) ++ option_to_list (onward berth days day_start ns.c at x n) in
     ap (λ l. l ++ later) (onward_is berth days day_start ns.a at x n)
     ∙ (ap (λ l. flat_map f a ++ l)
-      (ap (λ l. l ++ option_to_list (onward berth days day_start ns.c at x n)) (onward_is berth days day_start ns.b at x n)
-        ∙ (ap (λ l. flat_map f b ++ l) (onward_is berth days day_start ns.c at x n) ∙ sym (flat_map-append f b c)))
-      ∙ sym (flat_map-append f a (b ++ c)))
+    (ap (λ l. l ++ option_to_list (onward berth days day_start ns.c at x n)) (onward_is berth days day_start ns.b at x n)
+    ∙ (ap (λ l. flat_map f b ++ l) (onward_is berth days day_start ns.c at x n) ∙ sym (flat_map-append f b c)))
+    ∙ sym (flat_map-append f a (b ++ c)))
 
 if_some : (P : Next UsState → Type 0) (o : Option (Next UsState)) → ((t : Next UsState) → IsOneOf (option_to_list o) t → P t) → IfSome o P
 if_some P None h = tt

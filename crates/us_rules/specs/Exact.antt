@@ -88,8 +88,8 @@ split_behind berth days day_start h a s = elim (cases_lt a PADDING_MINUTES) [
       let pads : List Activity = padding (UsProperty berth days day_start) in
       let len = length_padding berth days day_start in
       let rest : (k : ℕ) → k < PADDING_MINUTES → rests (unit_at p k) ≡ true =
-          (λ k m. let inside : k < length (pads ++ h) = omega (arith, length-append pads h) in
-            ap rests (unit_at-append (pads ++ h) pads k inside ∙ (unit_at-append pads h k (omega arith) ∙ unit_at-replicate (pad_units (UsProperty berth days day_start)) k))) in
+      (λ k m. let inside : k < length (pads ++ h) = omega (arith, length-append pads h) in
+      ap rests (unit_at-append (pads ++ h) pads k inside ∙ (unit_at-append pads h k (omega arith) ∙ unit_at-replicate (pad_units (UsProperty berth days day_start)) k))) in
       let r = s.run.run in
       let short = s.run.short in
       elim (cases_lt 0 a) [
@@ -168,7 +168,7 @@ places_of_keeps berth days day_start first h marks k =
     let named : marks ≡ map (mark_at first) starts = marks_again first marks placed in
     let have : HaveMinutes first starts = places_have first marks placed in
     let same : AreSame (Contains starts) (IsSplitAt (UsProperty berth days day_start) first marks) =
-        subst (λ ms. AreSame (Contains starts) (IsSplitAt (UsProperty berth days day_start) first ms)) (sym named) (same_marks berth days day_start first starts have) in
+    subst (λ ms. AreSame (Contains starts) (IsSplitAt (UsProperty berth days day_start) first ms)) (sym named) (same_marks berth days day_start first starts have) in
     record {
       starts = starts;
       named = named;
@@ -211,7 +211,7 @@ us_sound berth days day_start first h marks some timed u r =
     let k = (split_exact US berth us_fits us_holds (pad_units params) h q.starts us_rule us_limit (omega arith) (short_history berth days day_start first h timed)).0 (u.split, d) in
     let brk = (guard_exact params first MeetsUsBreak8 TracksBreak break_ok break_after (break_is_guard berth days day_start first) (break_made US_BREAK 0) h (tracks_break_root berth days day_start)).0 q.unbroken in
     let week = (guard_exact params first (MeetsUsWeek days (us_day day_start first)) (TracksWeek days day_start first) (week_ok days day_start) (week_after day_start) (week_is_guard berth days day_start first some) (week_made US_RESTART (replicate days 0)) h
-        (tracks_week_root berth days day_start first)).0 q.week in
+    (tracks_week_root berth days day_start first)).0 q.week in
     subst (KeepsAll params first h) (sym q.named) (keeps_of_places berth days day_start first h q.starts k brk week)
 
 us_whole : (berth : Bool) (days day_start first : ℕ) (h : List Activity) (marks : List Mark) → 0 < days → IsTimed (UsProperty berth days day_start) first h →
@@ -224,7 +224,7 @@ us_whole berth days day_start first h marks some timed l =
     let d : Declares US berth us_fits fresh_count PADDING_MINUTES h q.starts k.0 = subst (λ n. Declares US berth us_fits fresh_count n h q.starts k.0) pads k.1 in
     let brk = (guard_exact params first MeetsUsBreak8 TracksBreak break_ok break_after (break_is_guard berth days day_start first) (break_made US_BREAK 0) h (tracks_break_root berth days day_start)).1 q.unbroken in
     let week = (guard_exact params first (MeetsUsWeek days (us_day day_start first)) (TracksWeek days day_start first) (week_ok days day_start) (week_after day_start) (week_is_guard berth days day_start first some) (week_made US_RESTART (replicate days 0)) h
-        (tracks_week_root berth days day_start first)).1 q.week in
+    (tracks_week_root berth days day_start first)).1 q.week in
     subst (λ ms. (u : UsState) × UsReaches berth days day_start (root_state days) first h ms u) (sym q.named)
     (path_us berth days day_start first h (root_state days) first PADDING_MINUTES q.starts k.0 refl (omega arith) d brk week)
 

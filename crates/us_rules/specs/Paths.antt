@@ -160,8 +160,7 @@ path_us berth days day_start first (x ∷ xs) s at i starts t e l d b w =
     let c : Choice = d.0 in
     let n : Next UsState = us_next (break_after s.rest_break at x) (week_after day_start s.week at x) (at - run_of s.split) c in
     let run : run_of c.count ≤ i + 1 = choice_run berth s.split x c i (us_choice berth s.split x c d.1) l in
-    let q = path_us berth days day_start first xs n.state (at + 1) (i + 1) d.2 t (omega arith) run d.4 b.1 w.1 in
-    (
+    let q = path_us berth days day_start first xs n.state (at + 1) (i + 1) d.2 t (omega arith) run d.4 b.1 w.1 in (
       q.0,
       (
         n,

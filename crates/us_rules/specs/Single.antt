@@ -52,7 +52,7 @@ path_has : (berth : Bool) (days day_start first : ℕ) (h : List Activity) (mark
 path_has berth days day_start first h marks u timed q =
     let pads = us_pads berth days day_start in
     let k = (split_exact US berth us_fits us_holds (pad_units (UsProperty berth days day_start)) h q.starts us_rule us_limit (omega arith) (short_history berth days day_start first h timed)).0
-        (u.split, split_path berth days day_start first h marks u q) in
+    (u.split, split_path berth days day_start first h marks u q) in
     starts_have berth days day_start first h q.starts k.splits
 
 same_state : (s t : UsState) → s.split ≡ t.split → s.rest_break ≡ t.rest_break → s.week ≡ t.week → s ≡ t

@@ -110,7 +110,7 @@ has_week days day_start first p c at some e h =
     let n = k.counted in
     let m = k.capped in
     let d : IsDutyOfDays (us_day day_start first) days US_RESTART q (first_days days sums) =
-        tracks_sums days day_start first q (week_after day_start c at Drive) some (omega arith) k in
+    tracks_sums days day_start first q (week_after day_start c at Drive) some (omega arith) k in
     let whole : first_days days sums ≡ sum sums = ap sum (take_all days sums (omega arith)) in
     let last : length q - 1 ≡ length p = omega (arith, length-one_more p Drive) in
     let end : length q ≡ length p + 1 = length-one_more p Drive in

@@ -318,12 +318,7 @@ impl RuleBook for UsBook {
         })
     }
 
-    fn step(
-        &self,
-        state: &UsState,
-        at: Minute,
-        act: Activity,
-    ) -> Result<Nexts<UsState>, NoMemory> {
+    fn step(&self, state: &UsState, at: Minute, act: Activity) -> Result<Nexts<UsState>, NoMemory> {
         Ok(self.nexts(state, at, act))
     }
 

@@ -24,9 +24,12 @@ fn moved<B: RuleBook>(
     requires range { at + unit_minutes (B.params_of book.now) * n < MINUTE_LIMIT }
     ensures { IfOk result (λ o. IfSome o (λ s. B.is_state_at book.now s (at + unit_minutes (B.params_of book.now) * n))) }
 {
-    let Nexts { a, b: _, c: _ } = book.advance(state, at, act, n)?;
-    match a {
-        Some(next) => Ok(Some(next.state)),
+    let Nexts { a, b: _, c } = book.advance(state, at, act, n)?;
+    if let Some(next) = a {
+        return Ok(Some(next.state));
+    }
+    match c {
+        Some(full) => Ok(Some(full.state)),
         None => Ok(None),
     }
 }
@@ -36,8 +39,9 @@ fn drives_eight_hours_without_a_break(rt: HostRuntime) -> Result<(), Fail> {
     let book = UsBook::new(false, 8, 0);
     let root = book.root(0)?;
     let Nexts { a, b, c } = book.advance(&root, 0, Activity::Drive, 480)?;
-    let shift = a.ok_or("refused")?;
-    assert!(rt; shift.mark.is_none() && b.is_none() && c.is_none());
+    // The rest before the history is a full rest that ends here.
+    let shift = c.ok_or("refused")?;
+    assert!(rt; shift.mark.is_none() && a.is_none() && b.is_none());
     let unbroken = BreakCount {
         still: 0,
         driven: 480,
@@ -75,8 +79,8 @@ fn answers_each_call(rt: HostRuntime) -> Result<(), Fail> {
     let copy = book.copy(&root)?;
     assert!(rt; book.covers(&root, &copy, 0));
     let driving = moved(&book, &root, 0, Activity::Drive, 1)?.ok_or("refused")?;
-    let root = book.root(1)?;
-    assert!(rt; !book.covers(&root, &driving, 1));
+    let resting = moved(&book, &root, 0, Activity::Berth, 1)?.ok_or("refused")?;
+    assert!(rt; !book.covers(&resting, &driving, 1));
     let idles = Idles {
         first: Activity::Berth,
         second: Some(Activity::Wait),
