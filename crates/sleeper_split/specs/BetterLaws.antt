@@ -27,16 +27,16 @@ use Rattle.sleeper_split.specs.Tracks.{IsLongest, IsUsedSince, HasLast, IsCounte
 use Rattle.sleeper_split.specs.Limits.{and_left, and_right, and_both, upto, same, is_upto, is_same, all_means, all_from, berth_means, berth_from, waiting}
 use Rattle.sleeper_split.specs.Laws.{us_keeps, canada_keeps}
 use Rattle.sleeper_split.specs.CountryLaws.{us_rule, canada_rule}
-use Rattle.sleeper_split.specs.CoverLaws.{never_splits, nothing_waits}
+use Rattle.sleeper_split.specs.CoverLaws.{never_splits, nothing_waits, ready_all, ready_none}
 use Rattle.sleeper_split.specs.Covers.{IsPairRule, IsCountOf, IsMonotone, IsBerthNoWorse, IsWaitNoWorse, IsDeep, IsNoWorse, Covers, allowed}
 
 -- # The countries
 
 pub us_pair_rule : IsPairRule US
-us_pair_rule = record { split = us_rule; least = omega arith; pairs = omega arith; owed = omega arith; berth = omega arith }
+us_pair_rule = record { split = us_rule; least = omega arith; shorter = omega arith; pairs = omega arith; owed = omega arith; berth = omega arith }
 
 pub canada_pair_rule : IsPairRule CANADA
-canada_pair_rule = record { split = canada_rule; least = omega arith; pairs = omega arith; owed = omega arith; berth = tt }
+canada_pair_rule = record { split = canada_rule; least = omega arith; shorter = omega arith; pairs = omega arith; owed = omega arith; berth = tt }
 
 less_keeps : (n m limit : ℕ) → n ≤ m → nat_le m limit ≡ true → nat_le n limit ≡ true
 less_keeps n m limit l h = let u = upto m limit h in is_upto n limit (omega arith)
@@ -118,14 +118,14 @@ since_waiting rule p Marked used later w a b g h = subst (λ n. IsUsedSince p n 
 pair_none : (rule : SplitRule) (w : Option WaitingRest) (r : OpenRun) → w ≡ None → may_pair rule w r ≡ true
 pair_none rule w r h = subst (λ v. may_pair rule v r ≡ true) (sym h) refl
 
-wait_neither : (k : BerthRule) (w v : Option WaitingRest) (base last : Used) → w ≡ None → v ≡ None → IsWaitNoWorse k w v base last
-wait_neither k w v base last h g = subst (λ x. IsWaitNoWorse k x v base last) (sym h) (subst (λ y. IsWaitNoWorse k None y base last) (sym g) tt)
+wait_neither : (rule : SplitRule) (w v : Option WaitingRest) (base last : Used) → w ≡ None → v ≡ None → IsWaitNoWorse rule w v base last
+wait_neither rule w v base last h g = subst (λ x. IsWaitNoWorse rule x v base last) (sym h) (subst (λ y. IsWaitNoWorse rule None y base last) (sym g) tt)
 
-wait_both : (k : BerthRule) (w v : Option WaitingRest) (r s : WaitingRest) (base last : Used) → w ≡ Some r → v ≡ Some s → s.long ≤ r.long → IsBerthNoWorse k r s → IsWaitNoWorse k w v base last
-wait_both k w v r s base last h g l b = subst (λ x. IsWaitNoWorse k x v base last) (sym h) (subst (λ y. IsWaitNoWorse k (Some r) y base last) (sym g) (l, b))
+wait_both : (rule : SplitRule) (w v : Option WaitingRest) (r s : WaitingRest) (base last : Used) → w ≡ Some r → v ≡ Some s → s.long ≤ r.long → IsBerthNoWorse rule.berth r s → IsWaitNoWorse rule w v base last
+wait_both rule w v r s base last h g l b = subst (λ x. IsWaitNoWorse rule x v base last) (sym h) (subst (λ y. IsWaitNoWorse rule (Some r) y base last) (sym g) (omega arith, b))
 
 berth_both : (k : BerthRule) (p q : List Activity) (a b c d : ℕ) (r s : WaitingRest) → IsLongest p a b r.berth → IsLongest q c d s.berth → ((n : ℕ) → HoldsBerth n q c d → HoldsBerth n p a b) → IsBerthNoWorse k r s
-berth_both SevenInOne p q a b c d r s h g f = berth_means h (f s.berth (berth_from g (omega arith)))
+berth_both SevenInOne p q a b c d r s h g f = let z = berth_means h (f s.berth (berth_from g (omega arith))) in omega arith
 berth_both AllOfNext p q a b c d r s h g f = tt
 
 -- a run all in the berth is the deepest
@@ -142,7 +142,7 @@ better_run rule may p Marked q a va t e false mb g = let m = never_splits may fa
 -- the split rests that wait
 record IsWaitBetter (rule : SplitRule) (a b : SplitCount) : Type 0 where
   less_last : IsWithin a.last b.last
-  waiting : IsWaitNoWorse rule.berth a.waiting b.waiting a.base b.last
+  waiting : IsWaitNoWorse rule a.waiting b.waiting a.base b.last
 
 better_wait : (rule : SplitRule) (p : List Activity) (Marked : ℕ → Type 0) (q : List Activity) (Other : ℕ → Type 0) (a b : SplitCount) → Tracks rule p Marked a → Tracks rule q Other b → HasLast rule p Marked a.base a.last a.waiting → HasLast rule q Other b.base b.last b.waiting → IsWithin a.base b.base →
     NoneWaits rule.full p Marked × NoneWaits rule.full q Other ⊎ BothWait rule.full p Marked q Other → IsWaitBetter rule a b
@@ -150,14 +150,14 @@ better_wait rule p Marked q Other a b t u h k l g = elim g [
   | inl n ↦
       (let x = not_waiting rule p Marked a.base a.last a.waiting n.0 h in
       let y = not_waiting rule q Other b.base b.last b.waiting n.1 k in
-      record { less_last = subst (λ r. IsWithin r b.last) x.0 (subst (IsWithin a.base) y.0 l); waiting = wait_neither rule.berth a.waiting b.waiting a.base b.last x.1 y.1 })
+      record { less_last = subst (λ r. IsWithin r b.last) x.0 (subst (IsWithin a.base) y.0 l); waiting = wait_neither rule a.waiting b.waiting a.base b.last x.1 y.1 })
   | inr w ↦
       (let x = waiting rule p Marked a t w.a w.b w.waits in
       let y = waiting rule q Other b u w.c w.d w.other_waits in
       let i = x.2 in let j = y.2 in let n = w.long in
       record {
         less_last = less_used p q w.b 0 w.d 0 a.last b.last (since_waiting rule p Marked a.base a.last a.waiting w.a w.b w.waits h) (since_waiting rule q Other b.base b.last b.waiting w.c w.d w.other_waits k) w.less_driving w.less_duty (let e = w.less_elapsed in omega arith);
-        waiting = wait_both rule.berth a.waiting b.waiting x.0 y.0 a.base b.last x.1 y.1 (omega arith) (berth_both rule.berth p q w.a w.b w.c w.d x.0 y.0 x.3 y.3 w.berth);
+        waiting = wait_both rule a.waiting b.waiting x.0 y.0 a.base b.last x.1 y.1 (omega arith) (berth_both rule.berth p q w.a w.b w.c w.d x.0 y.0 x.3 y.3 w.berth);
       })
 ]
 
@@ -174,7 +174,7 @@ better_counted rule may berth p Marked q Other a b mb va vb t u ca cb g =
     record {
       run = l;
       deep = elim run [ inl e ↦ inl (deep_all rule.berth a.run b.run va.is_count.is_run vb.is_count.is_run l e) | inr n ↦ inr n ];
-      keeps = inr (elim run [ inl e ↦ inr e | inr n ↦ inl n.1 ]);
+      keeps = inr (elim run [ inl e ↦ ready_all rule.berth a.waiting a.run e | inr n ↦ ready_none rule.berth a.waiting a.run n.1 ]);
       less_base = base;
       less_last = w.less_last;
       waiting = w.waiting;

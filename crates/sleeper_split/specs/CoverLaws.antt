@@ -17,7 +17,7 @@ use Rattle.sleeper_split.specs.Machine.{IsUsed, IsOpenRun, IsWithin, IsSplitCoun
 use Rattle.sleeper_split.specs.Choices.{Choice, choice, sleeps, choices}
 use Rattle.sleeper_split.specs.Limits.{and_left, and_right, and_both, below, upto, same, is_below, is_upto, is_same}
 use Rattle.sleeper_split.specs.ChoiceLaws.{fits, IsUndeclared, IsAsSplit, IsAsFull, IsChoice, choice_cases, is_choice}
-use Rattle.sleeper_split.specs.Covers.{IsBerthWithin, IsPairRule, WaitsWell, IsCountOf, allowed, own_rest, IsMonotone, IsBerthNoWorse, IsWaitNoWorse, IsDeep, IsNoWorse, IsFresher, as_waiting, IsOwed, IsOwing, Covers, is_free, is_ahead, waits_none}
+use Rattle.sleeper_split.specs.Covers.{IsBerthWithin, IsPairRule, WaitsWell, IsCountOf, allowed, own_rest, IsMonotone, IsBerthNoWorse, IsWaitNoWorse, IsDeep, IsReady, IsNoWorse, IsFresher, as_waiting, IsOwed, IsOwing, Covers, is_free, is_ahead, waits_none}
 
 -- # Tests and counts
 
@@ -166,12 +166,12 @@ has_pair_more SevenInOne w v r q b d t = elim (or_cases (nat_le US_PAIR_BERTH v.
 ]
 has_pair_more AllOfNext w v r q b d t = let e = same q.stretch q.long t in is_same r.stretch r.long (elim d [ inl i ↦ i | inr i ↦ (let x = i.0 in let y = i.1 in omega arith) ])
 
--- the pair test holds of more
-pair_more : (rule : SplitRule) (w v : Option WaitingRest) (r q : OpenRun) (base last : Used) → IsWaitNoWorse rule.berth w v base last → q.long ≤ r.long → IsDeep rule.berth r q ⊎ (w ≡ None) → may_pair rule v q ≡ true → may_pair rule w r ≡ true
-pair_more rule None v r q base last h l d t = refl
-pair_more rule (Some w) None r q base last h l d t = absurd h
-pair_more rule (Some w) (Some v) r q base last h l (inr d) t = absurd (let z : Some w ≡ None = d in cc)
-pair_more rule (Some w) (Some v) r q base last h l (inl d) t =
+-- the pair test holds of more, where the run may be the second one of a pair
+pair_more : (rule : SplitRule) (w v : Option WaitingRest) (r q : OpenRun) (base last : Used) → IsWaitNoWorse rule w v base last → rule.least ≤ q.long → q.long ≤ r.long → IsDeep rule.berth r q ⊎ (w ≡ None) → may_pair rule v q ≡ true → may_pair rule w r ≡ true
+pair_more rule None v r q base last h m l d t = refl
+pair_more rule (Some w) None r q base last h m l d t = absurd h
+pair_more rule (Some w) (Some v) r q base last h m l (inr d) t = absurd (let z : Some w ≡ None = d in cc)
+pair_more rule (Some w) (Some v) r q base last h m l (inl d) t =
     let c = upto rule.pair (v.long + q.long) (and_left (nat_le rule.pair (v.long + q.long)) (has_pair_berth rule.berth v q) t) in
     let x = h.0 in
     and_both (nat_le rule.pair (w.long + r.long)) (has_pair_berth rule.berth w r) (is_upto rule.pair (w.long + r.long) (omega arith))
@@ -198,14 +198,13 @@ berth_full : (k : BerthRule) (full : ℕ) (w : WaitingRest) (r : OpenRun) → Is
 berth_full SevenInOne full w r b h l e = let a = h.ends in or_right (nat_le US_PAIR_BERTH w.berth) (nat_le US_PAIR_BERTH r.longest) (is_upto US_PAIR_BERTH r.longest (omega arith))
 berth_full AllOfNext full w r b h l e = is_same r.stretch r.long e
 
--- a full rest makes a pair, where none waits or it is all in the berth
-pair_full : (rule : SplitRule) (may : Bool) (w : Option WaitingRest) (r : OpenRun) → IsPairRule rule → WaitsWell rule may w → IsOpenRun r → rule.full ≤ r.long → (w ≡ None) ⊎ (r.stretch ≡ r.long) → may_pair rule w r ≡ true
+-- a full rest makes a pair, where it is ready
+pair_full : (rule : SplitRule) (may : Bool) (w : Option WaitingRest) (r : OpenRun) → IsPairRule rule → WaitsWell rule may w → IsOpenRun r → rule.full ≤ r.long → IsReady rule.berth w r → may_pair rule w r ≡ true
 pair_full rule may None r good h o l e = refl
-pair_full rule may (Some w) r good h o l (inl e) = absurd (let z : Some w ≡ None = e in cc)
-pair_full rule may (Some w) r good h o l (inr e) =
+pair_full rule may (Some w) r good h o l e =
     let p = good.pairs in
     let m = h.1 in
-    and_both (nat_le rule.pair (w.long + r.long)) (has_pair_berth rule.berth w r) (is_upto rule.pair (w.long + r.long) (omega arith)) (berth_full rule.berth rule.full w r good.berth o l e)
+    and_both (nat_le rule.pair (w.long + r.long)) (has_pair_berth rule.berth w r) (is_upto rule.pair (w.long + r.long) (omega arith)) (elim e [ inl a ↦ berth_full rule.berth rule.full w r good.berth o l a | inr t ↦ t ])
 
 -- # Reflexive and transitive
 
@@ -223,24 +222,27 @@ berth_over : (k : BerthRule) (w v u : WaitingRest) → IsBerthNoWorse k w v → 
 berth_over SevenInOne w v u h g = omega arith
 berth_over AllOfNext w v u h g = tt
 
-wait_same : (k : BerthRule) (w : Option WaitingRest) (base last : Used) → IsWaitNoWorse k w w base last
-wait_same k None base last = tt
-wait_same SevenInOne (Some w) base last = (omega arith, omega arith)
-wait_same AllOfNext (Some w) base last = (omega arith, tt)
+berth_same : (k : BerthRule) (w : WaitingRest) → IsBerthNoWorse k w w
+berth_same SevenInOne w = omega arith
+berth_same AllOfNext w = tt
 
-wait_over : (k : BerthRule) (u w v : Option WaitingRest) (b1 b2 l2 l3 : Used) → IsWithin b1 b2 → IsWithin l2 l3 → IsWaitNoWorse k u w b1 l2 → IsWaitNoWorse k w v b2 l3 → IsWaitNoWorse k u v b1 l3
-wait_over k None None None b1 b2 l2 l3 h g p q = tt
-wait_over k None None (Some v) b1 b2 l2 l3 h g p q = within_over b1 b2 l3 h q
-wait_over k None (Some w) None b1 b2 l2 l3 h g p q = absurd q
-wait_over k None (Some w) (Some v) b1 b2 l2 l3 h g p q = within_over b1 l2 l3 p g
-wait_over k (Some u) None v b1 b2 l2 l3 h g p q = absurd p
-wait_over k (Some u) (Some w) None b1 b2 l2 l3 h g p q = absurd q
-wait_over k (Some u) (Some w) (Some v) b1 b2 l2 l3 h g p q = (let a = p.0 in let c = q.0 in omega arith, berth_over k u w v p.1 q.1)
+wait_same : (rule : SplitRule) (w : Option WaitingRest) (base last : Used) → IsWaitNoWorse rule w w base last
+wait_same rule None base last = tt
+wait_same rule (Some w) base last = (omega arith, berth_same rule.berth w)
 
-wait_none : (k : BerthRule) (w v : Option WaitingRest) (base last : Used) → IsWaitNoWorse k w v base last → v ≡ None → w ≡ None
-wait_none k None v base last h e = refl
-wait_none k (Some w) None base last h e = absurd h
-wait_none k (Some w) (Some v) base last h e = absurd (let z : Some v ≡ None = e in cc)
+wait_over : (rule : SplitRule) (u w v : Option WaitingRest) (b1 b2 l2 l3 : Used) → IsWithin b1 b2 → IsWithin l2 l3 → IsWaitNoWorse rule u w b1 l2 → IsWaitNoWorse rule w v b2 l3 → IsWaitNoWorse rule u v b1 l3
+wait_over rule None None None b1 b2 l2 l3 h g p q = tt
+wait_over rule None None (Some v) b1 b2 l2 l3 h g p q = within_over b1 b2 l3 h q
+wait_over rule None (Some w) None b1 b2 l2 l3 h g p q = absurd q
+wait_over rule None (Some w) (Some v) b1 b2 l2 l3 h g p q = within_over b1 l2 l3 p g
+wait_over rule (Some u) None v b1 b2 l2 l3 h g p q = absurd p
+wait_over rule (Some u) (Some w) None b1 b2 l2 l3 h g p q = absurd q
+wait_over rule (Some u) (Some w) (Some v) b1 b2 l2 l3 h g p q = (let a = p.0 in let c = q.0 in omega arith, berth_over rule.berth u w v p.1 q.1)
+
+wait_none : (rule : SplitRule) (w v : Option WaitingRest) (base last : Used) → IsWaitNoWorse rule w v base last → v ≡ None → w ≡ None
+wait_none rule None v base last h e = refl
+wait_none rule (Some w) None base last h e = absurd h
+wait_none rule (Some w) (Some v) base last h e = absurd (let z : Some v ≡ None = e in cc)
 
 pub covers_same : (rule : SplitRule) (may : Bool) (a : SplitCount) → Covers rule may a a
 covers_same rule may a = inr (inl (record {
@@ -249,38 +251,54 @@ covers_same rule may a = inr (inl (record {
   keeps = inl refl;
   less_base = within_same a.base;
   less_last = within_same a.last;
-  waiting = wait_same rule.berth a.waiting a.base a.last;
+  waiting = wait_same rule a.waiting a.base a.last;
 }))
 
-no_worse_pair : (rule : SplitRule) (may : Bool) (a b : SplitCount) → IsNoWorse rule may a b → may_pair rule b.waiting b.run ≡ true → may_pair rule a.waiting a.run ≡ true
-no_worse_pair rule may a b h t = pair_more rule a.waiting b.waiting a.run b.run a.base b.last h.waiting h.run (elim h.deep [ inl d ↦ inl d | inr d ↦ inr d.1 ]) t
+no_worse_pair : (rule : SplitRule) (may : Bool) (a b : SplitCount) → IsNoWorse rule may a b → rule.least ≤ b.run.long → may_pair rule b.waiting b.run ≡ true → may_pair rule a.waiting a.run ≡ true
+no_worse_pair rule may a b h m t = pair_more rule a.waiting b.waiting a.run b.run a.base b.last h.waiting m h.run (elim h.deep [ inl d ↦ inl d | inr d ↦ inr d.1 ]) t
 
 -- equal runs, of which one is all in the berth
-all_over : (k : BerthRule) (r q : OpenRun) → IsOpenRun r → IsDeep k r q → r.long ≡ q.long → q.stretch ≡ q.long → r.stretch ≡ r.long
-all_over SevenInOne r q o d e h = let a = o.ends in let b = o.inside in let c = d.0 in omega arith
-all_over AllOfNext r q o (inl d) e h = d
-all_over AllOfNext r q o (inr d) e h = let a = d.1 in omega arith
+all_over : (k : BerthRule) (w : WaitingRest) (r q : OpenRun) → IsOpenRun r → IsDeep k r q → r.long ≡ q.long → q.stretch ≡ q.long → (r.stretch ≡ r.long) ⊎ (has_pair_berth k w r ≡ true)
+all_over SevenInOne w r q o d e h = let a = o.ends in let b = o.inside in let c = d.0 in elim (cases_lt q.long US_PAIR_BERTH) [
+  | inl l ↦ inl (omega arith)
+  | inr l ↦ inr (or_right (nat_le US_PAIR_BERTH w.berth) (nat_le US_PAIR_BERTH r.longest) (is_upto US_PAIR_BERTH r.longest (omega arith)))
+]
+all_over AllOfNext w r q o (inl d) e h = inl d
+all_over AllOfNext w r q o (inr d) e h = inl (let a = d.1 in omega arith)
+
+ready_over : (rule : SplitRule) (w v : Option WaitingRest) (r q : OpenRun) (base last : Used) → IsOpenRun r → IsWaitNoWorse rule w v base last → IsDeep rule.berth r q → r.long ≡ q.long → IsReady rule.berth v q → IsReady rule.berth w r
+ready_over rule None v r q base last o h d e g = tt
+ready_over rule (Some w) None r q base last o h d e g = absurd h
+ready_over rule (Some w) (Some v) r q base last o h d e (inl g) = all_over rule.berth w r q o d e g
+ready_over rule (Some w) (Some v) r q base last o h d e (inr g) = inr (has_pair_more rule.berth w v r q h.1 d g)
+
+pub ready_none : (k : BerthRule) (w : Option WaitingRest) (r : OpenRun) → w ≡ None → IsReady k w r
+ready_none k w r h = subst (λ v. IsReady k v r) (sym h) tt
+
+pub ready_all : (k : BerthRule) (w : Option WaitingRest) (r : OpenRun) → r.stretch ≡ r.long → IsReady k w r
+ready_all k None r h = tt
+ready_all k (Some w) r h = inl h
 
 no_worse_over : (rule : SplitRule) (may : Bool) (a b c : SplitCount) → IsCountOf rule may a → IsNoWorse rule may a b → IsNoWorse rule may b c → IsNoWorse rule may a c
 no_worse_over rule may a b c va h k = let r1 = h.run in let r2 = k.run in record {
   run = omega arith;
   deep = elim h.deep [
     | inr u ↦ inr u
-    | inl u ↦ elim k.deep [ inl v ↦ inl (deep_over rule.berth a.run b.run c.run u v) | inr v ↦ inr (v.0, wait_none rule.berth a.waiting b.waiting a.base b.last h.waiting v.1) ]
+    | inl u ↦ elim k.deep [ inl v ↦ inl (deep_over rule.berth a.run b.run c.run u v) | inr v ↦ inr (v.0, wait_none rule a.waiting b.waiting a.base b.last h.waiting v.1) ]
   ];
   keeps = elim h.keeps [
     | inr u ↦ inr u
     | inl u ↦ elim k.keeps [
       | inl v ↦ inl (u ∙ v)
-      | inr v ↦ inr (elim v [
-        | inl n ↦ inl (wait_none rule.berth a.waiting b.waiting a.base b.last h.waiting n)
-        | inr n ↦ elim h.deep [ inl d ↦ inr (all_over rule.berth a.run b.run va.is_count.is_run d u n) | inr d ↦ inl d.1 ]
+      | inr v ↦ inr (elim h.deep [
+        | inl d ↦ ready_over rule a.waiting b.waiting a.run b.run a.base b.last va.is_count.is_run h.waiting d u v
+        | inr d ↦ ready_none rule.berth a.waiting a.run d.1
       ])
     ]
   ];
   less_base = within_over a.base b.base c.base h.less_base k.less_base;
   less_last = within_over a.last b.last c.last h.less_last k.less_last;
-  waiting = wait_over rule.berth a.waiting b.waiting c.waiting a.base b.base b.last c.last h.less_base k.less_last h.waiting k.waiting;
+  waiting = wait_over rule a.waiting b.waiting c.waiting a.base b.base b.last c.last h.less_base k.less_last h.waiting k.waiting;
 }
 
 split_berth_more : (k : BerthRule) (r q : OpenRun) → IsDeep k r q → has_split_berth k q ≡ true → has_split_berth k r ≡ true
@@ -296,9 +314,9 @@ deep_berth : (k : BerthRule) (r q : OpenRun) → IsDeep k r q → IsBerthNoWorse
 deep_berth SevenInOne r q d = d.1
 deep_berth AllOfNext r q d = tt
 
-owed_more : (k : BerthRule) (r q : OpenRun) (u v : Used) (w : Option WaitingRest) (c : SplitCount) → q.long ≤ r.long → IsDeep k r q → IsWithin u v → IsOwed k q v w c → IsOwed k r u w c
-owed_more k r q u v None c l n i h = absurd h
-owed_more k r q u v (Some w) c l n i h = (let x = h.0 in omega arith, berth_over k (as_waiting r) (as_waiting q) w (deep_berth k r q n) h.1, within_over u v c.base i h.2)
+owed_more : (rule : SplitRule) (r q : OpenRun) (u v : Used) (w : Option WaitingRest) (c : SplitCount) → q.long ≤ r.long → IsDeep rule.berth r q → IsWithin u v → IsOwed rule q v w c → IsOwed rule r u w c
+owed_more rule r q u v None c l n i h = absurd h
+owed_more rule r q u v (Some w) c l n i h = (let x = h.0 in omega arith, berth_over rule.berth (as_waiting r) (as_waiting q) w (deep_berth rule.berth r q n) h.1, within_over u v c.base i h.2)
 
 no_worse_owing : (rule : SplitRule) (may : Bool) (a b c : SplitCount) → IsNoWorse rule may a b → IsOwing rule may b c → IsOwing rule may a c
 no_worse_owing rule may a b c h k =
@@ -308,14 +326,14 @@ no_worse_owing rule may a b c h k =
       allows = k.allows;
       least = let l = k.least in omega arith;
       berth = split_berth_more rule.berth a.run b.run d k.berth;
-      pair = no_worse_pair rule may a b h k.pair;
-      owed = owed_more rule.berth a.run b.run (without_run a) (without_run b) c.waiting c r d (within_run a b r h.less_last) k.owed;
+      pair = no_worse_pair rule may a b h k.least k.pair;
+      owed = owed_more rule a.run b.run (without_run a) (without_run b) c.waiting c r d (within_run a b r h.less_last) k.owed;
     }
 
-owed_less : (k : BerthRule) (r : OpenRun) (u : Used) (w v : Option WaitingRest) (b c : SplitCount) (base last : Used) → c.run.long ≤ b.run.long → IsWithin b.base c.base → IsWaitNoWorse k w v base last → IsOwed k r u w b → IsOwed k r u v c
-owed_less k r u None v b c base last l i n h = absurd h
-owed_less k r u (Some w) None b c base last l i n h = absurd n
-owed_less k r u (Some w) (Some v) b c base last l i n h = (let x = h.0 in let y = n.0 in omega arith, berth_over k (as_waiting r) w v h.1 n.1, within_over u b.base c.base h.2 i)
+owed_less : (rule : SplitRule) (r : OpenRun) (u : Used) (w v : Option WaitingRest) (b c : SplitCount) (base last : Used) → c.run.long ≤ b.run.long → IsWithin b.base c.base → IsWaitNoWorse rule w v base last → IsOwed rule r u w b → IsOwed rule r u v c
+owed_less rule r u None v b c base last l i n h = absurd h
+owed_less rule r u (Some w) None b c base last l i n h = absurd n
+owed_less rule r u (Some w) (Some v) b c base last l i n h = (let x = h.0 in let y = n.0 in omega arith, berth_over rule.berth (as_waiting r) w v h.1 n.1, within_over u b.base c.base h.2 i)
 
 owing_no_worse : (rule : SplitRule) (may : Bool) (a b c : SplitCount) → IsOwing rule may a b → IsNoWorse rule may b c → IsOwing rule may a c
 owing_no_worse rule may a b c h k = record {
@@ -323,26 +341,26 @@ owing_no_worse rule may a b c h k = record {
   least = h.least;
   berth = h.berth;
   pair = h.pair;
-  owed = owed_less rule.berth a.run (without_run a) b.waiting c.waiting b c b.base c.last k.run k.less_base k.waiting h.owed;
+  owed = owed_less rule a.run (without_run a) b.waiting c.waiting b c b.base c.last k.run k.less_base k.waiting h.owed;
 }
 
 -- where b's run is a pair with what waits in it, a's run is as long as a pair
-pair_owed : (rule : SplitRule) (r : OpenRun) (u : Used) (w : Option WaitingRest) (b : SplitCount) → IsOwed rule.berth r u w b → may_pair rule w b.run ≡ true → rule.pair ≤ r.long
-pair_owed rule r u None b h t = absurd h
-pair_owed rule r u (Some v) b h t = let x = h.0 in let l = upto rule.pair (v.long + b.run.long) (and_left (nat_le rule.pair (v.long + b.run.long)) (has_pair_berth rule.berth v b.run) t) in omega arith
+pair_owed : (rule : SplitRule) (r : OpenRun) (u : Used) (w : Option WaitingRest) (b : SplitCount) → IsOwed rule r u w b → rule.least ≤ b.run.long → may_pair rule w b.run ≡ true → rule.pair ≤ r.long
+pair_owed rule r u None b h m t = absurd h
+pair_owed rule r u (Some v) b h m t = let x = h.0 in let l = upto rule.pair (v.long + b.run.long) (and_left (nat_le rule.pair (v.long + b.run.long)) (has_pair_berth rule.berth v b.run) t) in omega arith
 
-run_owed : (k : BerthRule) (r : OpenRun) (u : Used) (w : Option WaitingRest) (b : SplitCount) → IsOwed k r u w b → b.run.long ≤ r.long
-run_owed k r u None b h = absurd h
-run_owed k r u (Some v) b h = let x = h.0 in omega arith
+run_owed : (rule : SplitRule) (r : OpenRun) (u : Used) (w : Option WaitingRest) (b : SplitCount) → IsOwed rule r u w b → b.run.long ≤ r.long
+run_owed rule r u None b h = absurd h
+run_owed rule r u (Some v) b h = let x = h.0 in omega arith
 
 pub covers_over : (rule : SplitRule) (may : Bool) (a b c : SplitCount) → IsPairRule rule → IsCountOf rule may a → Covers rule may a b → Covers rule may b c → Covers rule may a c
 covers_over rule may a b c good va (inl f) k = inl f
-covers_over rule may a b c good va (inr (inl h)) (inl f) = inl (record { long = let l = f.long in let r = h.run in omega arith; pair = no_worse_pair rule may a b h f.pair })
+covers_over rule may a b c good va (inr (inl h)) (inl f) = inl (record { long = let l = f.long in let r = h.run in omega arith; pair = no_worse_pair rule may a b h (let l = f.long in let m = good.shorter in omega arith) f.pair })
 covers_over rule may a b c good va (inr (inl h)) (inr (inl k)) = inr (inl (no_worse_over rule may a b c va h k))
 covers_over rule may a b c good va (inr (inl h)) (inr (inr k)) = inr (inr (no_worse_owing rule may a b c h k))
-covers_over rule may a b c good va (inr (inr h)) (inl f) = inl (record { long = let l = f.long in let r = run_owed rule.berth a.run (without_run a) b.waiting b h.owed in omega arith; pair = h.pair })
+covers_over rule may a b c good va (inr (inr h)) (inl f) = inl (record { long = let l = f.long in let r = run_owed rule a.run (without_run a) b.waiting b h.owed in omega arith; pair = h.pair })
 covers_over rule may a b c good va (inr (inr h)) (inr (inl k)) = inr (inr (owing_no_worse rule may a b c h k))
-covers_over rule may a b c good va (inr (inr h)) (inr (inr k)) = inl (record { long = let l = pair_owed rule a.run (without_run a) b.waiting b h.owed k.pair in let r = good.owed in omega arith; pair = h.pair })
+covers_over rule may a b c good va (inr (inr h)) (inr (inr k)) = inl (record { long = let l = pair_owed rule a.run (without_run a) b.waiting b h.owed k.least k.pair in let r = good.owed in omega arith; pair = h.pair })
 
 -- # Simulation
 
@@ -363,32 +381,32 @@ deep_none : (k : BerthRule) → IsDeep k no_run no_run
 deep_none SevenInOne = (omega arith, omega arith)
 deep_none AllOfNext = inl refl
 
-wait_duty : (k : BerthRule) (w v : Option WaitingRest) (d : Bool) (base last : Used) → IsWaitNoWorse k w v base last → IsWaitNoWorse k w v (worked d base) (worked d last)
-wait_duty k None None d base last h = tt
-wait_duty k None (Some v) d base last h = within_duty d base last h
-wait_duty k (Some w) None d base last h = absurd h
-wait_duty k (Some w) (Some v) d base last h = h
+wait_duty : (rule : SplitRule) (w v : Option WaitingRest) (d : Bool) (base last : Used) → IsWaitNoWorse rule w v base last → IsWaitNoWorse rule w v (worked d base) (worked d last)
+wait_duty rule None None d base last h = tt
+wait_duty rule None (Some v) d base last h = within_duty d base last h
+wait_duty rule (Some w) None d base last h = absurd h
+wait_duty rule (Some w) (Some v) d base last h = h
 
-wait_rest : (k : BerthRule) (w v : Option WaitingRest) (base last : Used) → IsWaitNoWorse k w v base last → IsWaitNoWorse k w v (rested base) (rested last)
-wait_rest k None None base last h = tt
-wait_rest k None (Some v) base last h = within_rest base last h
-wait_rest k (Some w) None base last h = absurd h
-wait_rest k (Some w) (Some v) base last h = h
+wait_rest : (rule : SplitRule) (w v : Option WaitingRest) (base last : Used) → IsWaitNoWorse rule w v base last → IsWaitNoWorse rule w v (rested base) (rested last)
+wait_rest rule None None base last h = tt
+wait_rest rule None (Some v) base last h = within_rest base last h
+wait_rest rule (Some w) None base last h = absurd h
+wait_rest rule (Some w) (Some v) base last h = h
 
 -- behind a unit of duty
-duty_no_worse : (rule : SplitRule) (may : Bool) (d : Bool) (a b : SplitCount) → IsWithin a.base b.base → IsWithin a.last b.last → IsWaitNoWorse rule.berth a.waiting b.waiting a.base b.last → IsNoWorse rule may (after_duty d a) (after_duty d b)
+duty_no_worse : (rule : SplitRule) (may : Bool) (d : Bool) (a b : SplitCount) → IsWithin a.base b.base → IsWithin a.last b.last → IsWaitNoWorse rule a.waiting b.waiting a.base b.last → IsNoWorse rule may (after_duty d a) (after_duty d b)
 duty_no_worse rule may d a b h g w = record {
   run = omega arith;
   deep = inl (deep_none rule.berth);
   keeps = inl refl;
   less_base = within_duty d a.base b.base h;
   less_last = within_duty d a.last b.last g;
-  waiting = wait_duty rule.berth a.waiting b.waiting d a.base b.last w;
+  waiting = wait_duty rule a.waiting b.waiting d a.base b.last w;
 }
 
-wait_least : (k : BerthRule) (v : Option WaitingRest) (d : Bool) (last : Used) → IsWaitNoWorse k None v (worked d none_used) (worked d last)
-wait_least k None d last = tt
-wait_least k (Some v) d last = within_least d last
+wait_least : (rule : SplitRule) (v : Option WaitingRest) (d : Bool) (last : Used) → IsWaitNoWorse rule None v (worked d none_used) (worked d last)
+wait_least rule None d last = tt
+wait_least rule (Some v) d last = within_least d last
 
 -- behind a full rest and a unit of duty nothing is better
 fresh_no_worse : (rule : SplitRule) (may : Bool) (d : Bool) (u : SplitCount) → IsNoWorse rule may (after_duty d rested_count) (after_duty d u)
@@ -398,7 +416,7 @@ fresh_no_worse rule may d u = record {
   keeps = inl refl;
   less_base = within_least d u.base;
   less_last = within_least d u.last;
-  waiting = wait_least rule.berth u.waiting d u.last;
+  waiting = wait_least rule u.waiting d u.last;
 }
 
 -- a unit of duty, whatever the run in progress was
@@ -453,20 +471,20 @@ split_answers rule may ok a b x c m h l k =
         work = k.work;
         some = omega arith;
         allowed = k.allowed;
-        passes = may_split_from rule a (omega arith) l (split_berth_more rule.berth a.run b.run d s.2) (no_worse_pair rule may a b h s.3);
+        passes = may_split_from rule a (omega arith) l (split_berth_more rule.berth a.run b.run d s.2) (no_worse_pair rule may a b h s.0 s.3);
         fit = fits_less ok x (split_count a) (split_count b) m (within_duty (drives x) (without_run a) (without_run b) u) k.fit;
         is = refl;
       })));
       covers = subst (λ t. Covers rule may (after_duty (drives x) (split_count a)) t) (count_is (after_duty (drives x) (split_count b)) true c k.is)
-          (inr (inl (duty_no_worse rule may (drives x) (split_count a) (split_count b) u (within_same none_used) (r, deep_berth rule.berth a.run b.run d))));
+          (inr (inl (duty_no_worse rule may (drives x) (split_count a) (split_count b) u (within_same none_used) (omega arith, deep_berth rule.berth a.run b.run d))));
     }
 
 -- a's run is a full rest that may end as one, where b goes on
-fresher_from : (rule : SplitRule) (may : Bool) (a b : SplitCount) → IsPairRule rule → IsCountOf rule may a → IsNoWorse rule may a b → rule.full ≤ a.run.long → (b.run.long < rule.full) ⊎ (may_pair rule b.waiting b.run ≡ true) → IsFresher rule a
+fresher_from : (rule : SplitRule) (may : Bool) (a b : SplitCount) → IsPairRule rule → IsCountOf rule may a → IsNoWorse rule may a b → rule.full ≤ a.run.long → (b.run.long < rule.full) ⊎ ((rule.least ≤ b.run.long) × (may_pair rule b.waiting b.run ≡ true)) → IsFresher rule a
 fresher_from rule may a b good va h l k = record {
   long = l;
   pair = elim k [
-    | inr t ↦ no_worse_pair rule may a b h t
+    | inr t ↦ no_worse_pair rule may a b h t.0 t.1
     | inl s ↦ elim h.keeps [ inl e ↦ absurd (omega arith) | inr u ↦ pair_full rule may a.waiting a.run good va.waits va.is_count.is_run l u ]
   ];
 }
@@ -480,26 +498,26 @@ no_worse_answers rule may ok a b x c good m va h g = elim g [
   | inr v ↦ elim v [
     | inl k ↦ elim (cases_lt a.run.long rule.full) [
       | inl l ↦ split_answers rule may ok a b x c m h l k
-      | inr l ↦ fresher_answers rule may ok a x c good m (fresher_from rule may a b good va h l (inr (split_length rule b k.passes).3)) (duty_of rule may ok b x c (inr (inl k)))
+      | inr l ↦ fresher_answers rule may ok a x c good m (fresher_from rule may a b good va h l (inr (let s = split_length rule b k.passes in (s.0, s.3)))) (duty_of rule may ok b x c (inr (inl k)))
     ]
-    | inr k ↦ (let l = k.long in let r = h.run in fresher_answers rule may ok a x c good m (fresher_from rule may a b good va h (omega arith) (inr k.paired)) (duty_of rule may ok b x c (inr (inr k))))
+    | inr k ↦ (let l = k.long in let r = h.run in fresher_answers rule may ok a x c good m (fresher_from rule may a b good va h (omega arith) (inr (let m = good.shorter in omega arith, k.paired))) (duty_of rule may ok b x c (inr (inr k))))
   ]
 ]
 
 -- a ends its run as a split rest, where b goes on without one
-owed_wait : (k : BerthRule) (r : OpenRun) (u base last : Used) (w : Option WaitingRest) (b : SplitCount) → IsOwed k r u w b → IsWaitNoWorse k (Some (as_waiting r)) w base last
-owed_wait k r u base last None b h = absurd h
-owed_wait k r u base last (Some v) b h = (let x = h.0 in omega arith, h.1)
+owed_wait : (rule : SplitRule) (r : OpenRun) (u base last : Used) (w : Option WaitingRest) (b : SplitCount) → IsOwed rule r u w b → IsWaitNoWorse rule (Some (as_waiting r)) w base last
+owed_wait rule r u base last None b h = absurd h
+owed_wait rule r u base last (Some v) b h = (let x = h.0 in omega arith, h.1)
 
-owed_within : (k : BerthRule) (r : OpenRun) (u : Used) (w : Option WaitingRest) (b : SplitCount) → IsOwed k r u w b → IsWithin u b.base
-owed_within k r u None b h = absurd h
-owed_within k r u (Some v) b h = h.2
+owed_within : (rule : SplitRule) (r : OpenRun) (u : Used) (w : Option WaitingRest) (b : SplitCount) → IsOwed rule r u w b → IsWithin u b.base
+owed_within rule r u None b h = absurd h
+owed_within rule r u (Some v) b h = h.2
 
 none_within : (u : Used) → IsWithin none_used u
 none_within u = record { less_driving = omega arith; less_duty = omega arith; less_elapsed = omega arith }
 
 owing_splits : (rule : SplitRule) (may : Bool) (ok : SplitCount → Bool) (a b : SplitCount) (x : Activity) (c : Choice) → IsMonotone ok → IsOwing rule may a b → 0 < a.run.long → a.run.long < rule.full → IsUndeclared rule ok b x c → HasCover rule may ok a x c
-owing_splits rule may ok a b x c m h some l k = let u = owed_within rule.berth a.run (without_run a) b.waiting b h.owed in record {
+owing_splits rule may ok a b x c m h some l k = let u = owed_within rule a.run (without_run a) b.waiting b h.owed in record {
   choice = choice (after_duty (drives x) (split_count a)) true;
   is = inr (inr (inl (record {
     work = k.work;
@@ -510,7 +528,7 @@ owing_splits rule may ok a b x c m h some l k = let u = owed_within rule.berth a
     is = refl;
   })));
   covers = subst (λ t. Covers rule may (after_duty (drives x) (split_count a)) t) (count_is (after_duty (drives x) b) false c k.is)
-      (inr (inl (duty_no_worse rule may (drives x) (split_count a) b u (none_within b.last) (owed_wait rule.berth a.run (without_run a) (without_run a) b.last b.waiting b h.owed))));
+      (inr (inl (duty_no_worse rule may (drives x) (split_count a) b u (none_within b.last) (owed_wait rule a.run (without_run a) (without_run a) b.last b.waiting b h.owed))));
 }
 
 owing_answers : (rule : SplitRule) (may : Bool) (ok : SplitCount → Bool) (a b : SplitCount) (x : Activity) (c : Choice) → IsPairRule rule → IsMonotone ok → IsOwing rule may a b → IsUndeclared rule ok b x c ⊎ IsAsSplit rule may ok b x c ⊎ IsAsFull rule ok b x c → HasCover rule may ok a x c
@@ -519,8 +537,8 @@ owing_answers rule may ok a b x c good m h g = elim (cases_lt a.run.long rule.fu
   | inl l ↦ elim g [
     | inl k ↦ owing_splits rule may ok a b x c m h (let z = good.least in let y = h.least in omega arith) l k
     | inr v ↦ elim v [
-      | inl k ↦ absurd (let z = pair_owed rule a.run (without_run a) b.waiting b h.owed (split_length rule b k.passes).3 in let o = good.owed in omega arith)
-      | inr k ↦ absurd (let z = run_owed rule.berth a.run (without_run a) b.waiting b h.owed in let o = k.long in omega arith)
+      | inl k ↦ absurd (let s = split_length rule b k.passes in let z = pair_owed rule a.run (without_run a) b.waiting b h.owed s.0 s.3 in let o = good.owed in omega arith)
+      | inr k ↦ absurd (let z = run_owed rule a.run (without_run a) b.waiting b h.owed in let o = k.long in omega arith)
     ]
   ]
 ]
@@ -553,12 +571,6 @@ deep_berth_on SevenInOne r q d = let a = d.0 in let b = d.1 in (omega arith, ome
 deep_berth_on AllOfNext r q (inl d) = inl (omega arith)
 deep_berth_on AllOfNext r q (inr d) = let a = d.0 in let b = d.1 in inr (omega arith, omega arith)
 
-deep_off_on : (k : BerthRule) (r q : OpenRun) (Else : Type 0) → IsDeep k r q → (k ≡ SevenInOne) ⊎ ((r.long ≡ q.long) ⊎ Else) → IsDeep k (longer false r) (longer false q) ⊎ Else
-deep_off_on SevenInOne r q Else d e = let b = d.1 in inl (omega arith, omega arith)
-deep_off_on AllOfNext r q Else d (inl e) = absurd (let z : AllOfNext ≡ SevenInOne = e in cc)
-deep_off_on AllOfNext r q Else d (inr (inl e)) = inl (inr (omega arith, refl))
-deep_off_on AllOfNext r q Else d (inr (inr e)) = inr e
-
 off_without_berth : (berth : Bool) → allowed berth Off ≡ true → berth ≡ false
 off_without_berth true h = absurd (let z : false ≡ true = h in cc)
 off_without_berth false h = refl
@@ -580,33 +592,40 @@ deep_on rule may berth a b Drive va mb l r (inl d) = absurd (let z : false ≡ t
 deep_on rule may berth a b Serve va mb l r (inl d) = absurd (let z : false ≡ true = r in cc)
 deep_on rule may berth a b Wait va mb l r (inl d) = absurd (let z : false ≡ true = r in cc)
 
-all_on : (rule : SplitRule) (may berth : Bool) (a : SplitCount) (x : Activity) → IsCountOf rule may a → (may ≡ true → berth ≡ true) → allowed berth x ≡ true → rests x ≡ true → (a.waiting ≡ None) ⊎ (a.run.stretch ≡ a.run.long) →
-    (a.waiting ≡ None) ⊎ ((longer (sleeps x) a.run).stretch ≡ (longer (sleeps x) a.run).long)
-all_on rule may berth a x va mb l r (inl n) = inl n
-all_on rule may berth a x va mb l r (inr e) = elim (rest_kind rule may berth a x va mb l r) [ inl n ↦ inl n | inr b ↦ inr (subst (λ y. (longer (sleeps y) a.run).stretch ≡ (longer (sleeps y) a.run).long) (sym b) (let z : one_more a.run.stretch ≡ one_more a.run.long = omega arith in z)) ]
+-- the tour's rest keeps a run ready
+ready_on : (k : BerthRule) (w : Option WaitingRest) (r : OpenRun) (x : Activity) → (w ≡ None) ⊎ (x ≡ Berth) → IsReady k w r → IsReady k w (longer (sleeps x) r)
+ready_on k None r x h g = tt
+ready_on k (Some w) r x (inl h) g = absurd (let z : Some w ≡ None = h in cc)
+ready_on k (Some w) r x (inr h) g = subst (λ y. ((longer (sleeps y) r).stretch ≡ (longer (sleeps y) r).long) ⊎ (has_pair_berth k w (longer (sleeps y) r) ≡ true)) (sym h) (elim g [
+  | inl e ↦ inl (let z : one_more r.stretch ≡ one_more r.long = omega arith in z)
+  | inr t ↦ inr (berth_on k w r t)
+])
 
 no_worse_on : (rule : SplitRule) (may berth : Bool) (a b : SplitCount) (x : Activity) → IsCountOf rule may a → (may ≡ true → berth ≡ true) → allowed berth x ≡ true → rests x ≡ true → IsNoWorse rule may a b → IsNoWorse rule may (after_rest (sleeps x) a) (after_rest (sleeps x) b)
 no_worse_on rule may berth a b x va mb l r h = record {
   run = let n = h.run in omega arith;
   deep = deep_on rule may berth a b x va mb l r h.deep;
-  keeps = elim h.keeps [ inl e ↦ inl (ap one_more e) | inr u ↦ inr (all_on rule may berth a x va mb l r u) ];
+  keeps = elim h.keeps [ inl e ↦ inl (ap one_more e) | inr u ↦ inr (ready_on rule.berth a.waiting a.run x (rest_kind rule may berth a x va mb l r) u) ];
   less_base = within_rest a.base b.base h.less_base;
   less_last = within_rest a.last b.last h.less_last;
-  waiting = wait_rest rule.berth a.waiting b.waiting a.base b.last h.waiting;
+  waiting = wait_rest rule a.waiting b.waiting a.base b.last h.waiting;
 }
 
 split_berth_on : (k : BerthRule) (r : OpenRun) → has_split_berth k r ≡ true → has_split_berth k (longer true r) ≡ true
 split_berth_on SevenInOne r h = refl
 split_berth_on AllOfNext r h = let e = same r.stretch r.long h in is_same (one_more r.stretch) (one_more r.long) (omega arith)
 
-owed_on : (k : BerthRule) (r : OpenRun) (u e : Used) (w : Option WaitingRest) (b : SplitCount) (y : Bool) → r.long < COUNT_LIMIT → IsWithin e u → e.elapsed ≤ COUNT_LIMIT → IsOwed k r u w b → IsOwed k (longer y r) e w (after_rest y b)
-owed_on k r u e None b y s i l h = absurd h
-owed_on SevenInOne r u e (Some v) b y s i l h =
-    let a = h.0 in let c = h.1 in let j = (within_over e u b.base i h.2).less_elapsed in
-    (omega arith, omega arith, record { less_driving = (within_over e u b.base i h.2).less_driving; less_duty = (within_over e u b.base i h.2).less_duty; less_elapsed = omega arith })
-owed_on AllOfNext r u e (Some v) b y s i l h =
-    let a = h.0 in let j = (within_over e u b.base i h.2).less_elapsed in
-    (omega arith, tt, record { less_driving = (within_over e u b.base i h.2).less_driving; less_duty = (within_over e u b.base i h.2).less_duty; less_elapsed = omega arith })
+longer_berth : (k : BerthRule) (y : Bool) (r : OpenRun) → IsBerthNoWorse k (as_waiting (longer y r)) (as_waiting r)
+longer_berth SevenInOne y r = omega arith
+longer_berth AllOfNext y r = tt
+
+owed_on : (rule : SplitRule) (r : OpenRun) (u e : Used) (w : Option WaitingRest) (b : SplitCount) (y : Bool) → r.long < COUNT_LIMIT → IsWithin e u → e.elapsed ≤ COUNT_LIMIT → IsOwed rule r u w b → IsOwed rule (longer y r) e w (after_rest y b)
+owed_on rule r u e None b y s i l h = absurd h
+owed_on rule r u e (Some v) b y s i l h =
+    let a = h.0 in
+    let n = within_over e u b.base i h.2 in
+    let j = n.less_elapsed in
+    (omega arith, berth_over rule.berth (as_waiting (longer y r)) (as_waiting r) v (longer_berth rule.berth y r) h.1, record { less_driving = n.less_driving; less_duty = n.less_duty; less_elapsed = omega arith })
 
 -- what is used without the run is no more for a longer run
 without_on : (a : SplitCount) (y : Bool) → IsSplitCount a → a.run.long < COUNT_LIMIT → IsWithin (without_run (after_rest y a)) (without_run a) × ((without_run (after_rest y a)).elapsed ≤ COUNT_LIMIT)
@@ -627,7 +646,7 @@ owing_on rule may berth a b x good va mb l r h =
             least = more_least a.run.long rule.least o.bounded h.least;
             berth = subst (λ y. has_split_berth rule.berth (longer (sleeps y) a.run) ≡ true) (sym e) (split_berth_on rule.berth a.run h.berth);
             pair = pair;
-            owed = owed_on rule.berth a.run (without_run a) (without_run (after_rest (sleeps x) a)) b.waiting b (sleeps x) (omega arith) w.0 w.1 h.owed;
+            owed = owed_on rule a.run (without_run a) (without_run (after_rest (sleeps x) a)) b.waiting b (sleeps x) (omega arith) w.0 w.1 h.owed;
           })))
     ]
 
@@ -715,18 +734,12 @@ ahead_deep rule may berth s AllOfNext vs mb (inr e) = elim (or_cases (not may) (
   | inr u ↦ inr (e.0, upto rule.full s.run.long u)
 ]
 
-wait_idle : (k : BerthRule) (w : Option WaitingRest) (d : Bool) (base last : Used) → IsUsed base → IsWithin last base → IsWaitNoWorse k w w (rested base) (worked d last)
-wait_idle k None d base last h g = tt
-wait_idle SevenInOne (Some w) d base last h g = (omega arith, omega arith)
-wait_idle AllOfNext (Some w) d base last h g = (omega arith, tt)
+wait_idle : (rule : SplitRule) (w : Option WaitingRest) (d : Bool) (base last : Used) → IsWaitNoWorse rule w w (rested base) (worked d last)
+wait_idle rule w d base last = wait_same rule w (rested base) (worked d last)
 
 within_worked : (d : Bool) (u : Used) → IsUsed u → IsWithin u (worked d u)
 within_worked true u h = let a = h.works in let b = h.bounded_duty in let c = h.bounded in record { less_driving = omega arith; less_duty = omega arith; less_elapsed = omega arith }
 within_worked false u h = let b = h.bounded_duty in let c = h.bounded in record { less_driving = omega arith; less_duty = omega arith; less_elapsed = omega arith }
-
-longer_berth : (k : BerthRule) (y : Bool) (r : OpenRun) → IsBerthNoWorse k (as_waiting (longer y r)) (as_waiting r)
-longer_berth SevenInOne y r = omega arith
-longer_berth AllOfNext y r = tt
 
 ahead_undeclared : (rule : SplitRule) (may berth : Bool) (ok : SplitCount → Bool) (s : SplitCount) (x : Activity) (c : Choice) → IsCountOf rule may s → (may ≡ true → berth ≡ true) → is_ahead rule may s ≡ true → IsUndeclared rule ok s x c → Covers rule may (after_rest (sleeps (own_rest berth)) s) c.count
 ahead_undeclared rule may berth ok s x c vs mb h k =
@@ -739,10 +752,10 @@ ahead_undeclared rule may berth ok s x c vs mb h k =
       | inl d ↦ inr (inl (record {
         run = omega arith;
         deep = d;
-        keeps = inr (all_on rule may berth s y vs mb r.1 r.0 (elim cases [ inl e ↦ inr e | inr e ↦ inl e.0 ]));
+        keeps = inr (ready_on rule.berth s.waiting s.run y (rest_kind rule may berth s y vs mb r.1 r.0) (elim cases [ inl e ↦ ready_all rule.berth s.waiting s.run e | inr e ↦ ready_none rule.berth s.waiting s.run e.0 ]));
         less_base = within_idle (drives x) s.base vs.is_count.is_base;
         less_last = within_idle (drives x) s.last vs.is_count.is_last;
-        waiting = wait_idle rule.berth s.waiting (drives x) s.base s.last vs.is_count.is_base vs.is_count.later;
+        waiting = wait_idle rule s.waiting (drives x) s.base s.last;
       }))
     ])
 

@@ -285,7 +285,7 @@ impl OpenRun {
     }
 
     /// Whether the time in the berth serves for a pair with an earlier split rest.
-    fn pairs(self, berth: BerthRule, rest: WaitingRest) -> bool
+    pub(crate) fn pairs(self, berth: BerthRule, rest: WaitingRest) -> bool
         ensures { result ≡ has_pair_berth berth rest self }
     {
         match berth {

@@ -1,10 +1,11 @@
 //! Which counts may stand for others, whatever comes next, and when resting is safe.
 ghost use Rattle.std.specs.Prelude.{◌≡◌, ◌↔◌, ◌≤◌, true};
 ghost use Rattle.sleeper_split.specs.Machine.{IsSplitCount, IsOpenRun, IsUsed, run_of, may_pair, has_split_berth, without_run};
-ghost use Rattle.sleeper_split.specs.Covers.{IsCountOf, Covers, covers_count, is_fresher, is_no_worse, is_owing, is_owed, is_deep, is_within, is_wait_no_worse, is_berth_no_worse, is_ahead, is_free, waits_none};
+ghost use Rattle.sleeper_split.specs.Covers.{IsCountOf, Covers, covers_count, is_fresher, is_no_worse, is_owing, is_owed, is_deep, is_within, is_wait_no_worse, is_berth_no_worse, is_ahead, is_free, is_ready, serving, waits_none};
 
 use crate::count::{OpenRun, SplitCount, Used, WaitingRest};
 use crate::rule::{BerthRule, SplitRule};
+use duty_core::US_PAIR_BERTH;
 
 impl SplitCount {
     /// Whether the counts are some of the rule, where `may` tells whether rests may be split: a
@@ -78,24 +79,33 @@ impl SplitCount {
         let run = self.run();
         let none = self.waiting().is_none();
         let deep = run.is_deep(other.run(), rule.berth) || (!may && none);
-        let keeps = run.long == other.run().long || none || run.stretch == run.long;
+        let keeps = run.long == other.run().long || self.is_ready(rule.berth);
         let less = self.base().is_within(other.base()) && self.last().is_within(other.last());
-        other.run().long <= run.long
-            && deep
-            && keeps
-            && less
-            && self.waits_no_worse(other, rule.berth)
+        other.run().long <= run.long && deep && keeps && less && self.waits_no_worse(other, rule)
+    }
+
+    /// Whether the run in progress may end as a full rest once it is one.
+    fn is_ready(self, berth: BerthRule) -> bool
+        ensures { result ≡ is_ready berth self.waiting self.run }
+    {
+        let run = self.run();
+        match self.waiting() {
+            None => true,
+            Some(rest) => run.stretch == run.long || run.pairs(berth, rest),
+        }
     }
 
     /// Whether the split rest that waits is no worse than that of `other`.
-    fn waits_no_worse(self, other: SplitCount, berth: BerthRule) -> bool
-        ensures { result ≡ is_wait_no_worse berth self.waiting other.waiting self.base other.last }
+    fn waits_no_worse(self, other: SplitCount, rule: SplitRule) -> bool
+        ensures { result ≡ is_wait_no_worse rule self.waiting other.waiting self.base other.last }
     {
         match (self.waiting(), other.waiting()) {
             (None, None) => true,
             (None, Some(_)) => self.base().is_within(other.last()),
             (Some(_), None) => false,
-            (Some(rest), Some(than)) => than.long <= rest.long && rest.serves(than, berth),
+            (Some(rest), Some(than)) => {
+                rule.serving(than.long) <= rest.long && rest.serves(than, rule.berth)
+            }
         }
     }
 
@@ -110,15 +120,15 @@ impl SplitCount {
         may && rule.least <= run.long
             && run.may_wait(rule.berth)
             && self.may_pair(rule)
-            && self.owes(other, rule.berth)
+            && self.owes(other, rule)
     }
 
     /// Whether the run in progress, as a split rest, is no worse than the one that waits in `other`
     /// and the run in progress there together.
-    fn owes(self, other: SplitCount, berth: BerthRule) -> bool
+    fn owes(self, other: SplitCount, rule: SplitRule) -> bool
         requires good { IsSplitCount self }
         requires other_good { IsSplitCount other }
-        ensures { result ≡ is_owed berth self.run (without_run self) other.waiting other }
+        ensures { result ≡ is_owed rule self.run (without_run self) other.waiting other }
     {
         let run = self.run();
         let last = self.last();
@@ -133,11 +143,21 @@ impl SplitCount {
                     long: run.long,
                     berth: run.longest,
                 };
-                rest.long.saturating_add(other.run().long) <= run.long
-                    && as_rest.serves(rest, berth)
+                rule.serving(rest.long).saturating_add(other.run().long) <= run.long
+                    && as_rest.serves(rest, rule.berth)
                     && used.is_within(other.base())
             }
         }
+    }
+}
+
+impl SplitRule {
+    /// The length of a split rest, as far as it serves: a longer one makes a pair with each rest
+    /// that may be its second.
+    fn serving(self, long: u32) -> u32
+        ensures { result ≡ serving self long }
+    {
+        long.min(self.pair.saturating_sub(self.least))
     }
 }
 
@@ -147,7 +167,10 @@ impl OpenRun {
         ensures { result ≡ is_deep berth self other }
     {
         match berth {
-            BerthRule::SevenInOne => other.stretch <= self.stretch && other.longest <= self.longest,
+            BerthRule::SevenInOne => {
+                other.stretch.min(US_PAIR_BERTH) <= self.stretch
+                    && other.longest.min(US_PAIR_BERTH) <= self.longest
+            }
             BerthRule::AllOfNext => {
                 self.stretch == self.long
                     || (self.long == other.long && self.stretch == other.stretch)
@@ -162,7 +185,7 @@ impl WaitingRest {
         ensures { result ≡ is_berth_no_worse berth self other }
     {
         match berth {
-            BerthRule::SevenInOne => other.berth <= self.berth,
+            BerthRule::SevenInOne => other.berth.min(US_PAIR_BERTH) <= self.berth,
             BerthRule::AllOfNext => true,
         }
     }
