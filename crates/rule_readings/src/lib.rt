@@ -20,6 +20,8 @@ mod lost;
 mod padded;
 mod pairs;
 mod rules;
+#[cfg(test)]
+mod tests;
 mod us;
 
 pub use broken_rules::broken;
