@@ -23,12 +23,15 @@ next_duty p (suc n) b d = elim (cases_Bool (rests (unit_at p b))) [
       let q : b + 1 + n ≡ b + suc n = omega arith in
       let h = next_duty p n (b + 1) (ap (λ m. rests (unit_at p m)) q ∙ d) in
       let l = h.1 in
-      let a = h.2.after in
-      (h.0, omega arith, record {
-        after = omega arith;
-        rest = λ k x y. elim (cases_eq k b) [ inl e ↦ ap (λ m. rests (unit_at p m)) e ∙ t | inr e ↦ h.2.rest k (omega arith) y ];
-        duty = h.2.duty;
-      })
+      let a = h.2.after in (
+        h.0,
+        omega arith,
+        record {
+          after = omega arith;
+          rest = λ k x y. elim (cases_eq k b) [ inl e ↦ ap (λ m. rests (unit_at p m)) e ∙ t | inr e ↦ h.2.rest k (omega arith) y ];
+          duty = h.2.duty;
+        },
+      )
 ]
 
 -- A stretch of rest before a unit of duty is part of a run that has ended there or before.

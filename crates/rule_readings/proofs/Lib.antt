@@ -1,6 +1,4 @@
 pub mod LostFacts
-pub mod LastEnds
-pub mod DayFacts
 pub mod HeldRuns
 pub mod CaPlaces
 pub mod Counts

@@ -9,3 +9,4 @@ pub mod Pairs
 pub mod Deferring
 pub mod EndFound
 pub mod CaSplits
+pub mod Count

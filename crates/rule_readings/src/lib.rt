@@ -7,6 +7,9 @@ mod ca_cycle;
 mod ca_day;
 mod ca_pair;
 mod ca_shift;
+#[cfg(test)]
+mod ca_tests;
+mod days;
 mod declared;
 mod deferral;
 mod lost;

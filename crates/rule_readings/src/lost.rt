@@ -50,13 +50,7 @@ impl LostMinutes {
     }
 
     /// The lost minutes of the day with this number.
-    pub(crate) fn in_day(
-        &self,
-        padded: &Padded,
-        params: Params,
-        first: Minute,
-        number: u32,
-    ) -> u32
+    pub(crate) fn in_day(&self, padded: &Padded, params: Params, first: Minute, number: u32) -> u32
         requires counts { AreLostCounts padded.now self.now }
         requires minutes { IsByMinutes params first }
         requires small { number < 1000000 }
