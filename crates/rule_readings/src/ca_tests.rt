@@ -104,6 +104,14 @@ const BERTH_1: Way = Way {
     cycle: 1,
 };
 
+/// A history, its marks and the rules that it breaks with them.
+#[derive(Clone, Copy)]
+struct Row<'a> {
+    marks: &'a [Mark],
+    parts: &'a [(Activity, u32)],
+    broken: &'a [Rule],
+}
+
 /// The history of these runs.
 fn history_of(alloc: Global, parts: &[(Activity, u32)]) -> Result<Timeline, Fail> {
     let mut history = Timeline::new(alloc);
@@ -141,12 +149,733 @@ fn broken(
     Ok(found)
 }
 
+/// The place of the first row whose history breaks other rules than its own.
+fn first_wrong(alloc: Global, way: Way, rows: &[Row]) -> Result<Option<usize>, Fail> {
+    for (i, row) in rows.iter().enumerate() {
+        let found = broken(alloc, way, row.marks, row.parts)?;
+        if found.as_slice() != row.broken {
+            return Ok(Some(i));
+        }
+    }
+    Ok(None)
+}
+
+#[test]
+fn drives_thirteen_hours_of_a_day(rt: HostRuntime) -> Result<(), Fail> {
+    let rows = [
+        Row {
+            marks: &[],
+            parts: &[(Drive, 780)],
+            broken: &[],
+        },
+        Row {
+            marks: &[],
+            parts: &[(Drive, 781)],
+            broken: &[Rule::CaDay13, Rule::CaShift13],
+        },
+        // A shift over midnight, and another one in the second day.
+        Row {
+            marks: &[],
+            parts: &[(Off, 960), (Drive, 780), (Off, 480), (Drive, 480)],
+            broken: &[],
+        },
+        Row {
+            marks: &[],
+            parts: &[(Off, 960), (Drive, 780), (Off, 480), (Drive, 481)],
+            broken: &[Rule::CaDay13],
+        },
+        Row {
+            marks: &[],
+            parts: &[(Off, 960), (Drive, 781)],
+            broken: &[Rule::CaShift13],
+        },
+    ];
+    assert_eq!(rt; first_wrong(rt.alloc(), DEFER_1, rows.as_slice())?, None);
+    Ok(())
+}
+
+#[test]
+fn drives_within_fourteen_hours_of_duty(rt: HostRuntime) -> Result<(), Fail> {
+    let rows = [
+        Row {
+            marks: &[],
+            parts: &[(Wait, 839), (Drive, 1)],
+            broken: &[],
+        },
+        Row {
+            marks: &[],
+            parts: &[(Wait, 840), (Drive, 1)],
+            broken: &[Rule::CaDay14, Rule::CaShift14, Rule::CaOff10],
+        },
+        // Fourteen hours of duty over midnight.
+        Row {
+            marks: &[],
+            parts: &[(Off, 960), (Wait, 839), (Drive, 1)],
+            broken: &[],
+        },
+        Row {
+            marks: &[],
+            parts: &[(Off, 960), (Wait, 840), (Drive, 1)],
+            broken: &[Rule::CaShift14],
+        },
+        // Work behind the last driving is no matter of these rules.
+        Row {
+            marks: &[],
+            parts: &[(Off, 960), (Drive, 1), (Wait, 1_000)],
+            broken: &[],
+        },
+    ];
+    assert_eq!(rt; first_wrong(rt.alloc(), DEFER_1, rows.as_slice())?, None);
+    Ok(())
+}
+
+#[test]
+fn drives_within_sixteen_hours(rt: HostRuntime) -> Result<(), Fail> {
+    let rows = [
+        Row {
+            marks: &[],
+            parts: &[(Wait, 100), (Off, 400), (Wait, 100), (Off, 359), (Drive, 1)],
+            broken: &[],
+        },
+        Row {
+            marks: &[],
+            parts: &[(Wait, 100), (Off, 400), (Wait, 100), (Off, 360), (Drive, 1)],
+            broken: &[Rule::CaElapsed16],
+        },
+        // Eight hours of rest begin a new shift, and a minute less does not.
+        Row {
+            marks: &[],
+            parts: &[(Wait, 500), (Off, 480), (Drive, 1)],
+            broken: &[],
+        },
+        Row {
+            marks: &[],
+            parts: &[(Wait, 500), (Off, 479), (Drive, 1)],
+            broken: &[Rule::CaElapsed16],
+        },
+    ];
+    assert_eq!(rt; first_wrong(rt.alloc(), DEFER_1, rows.as_slice())?, None);
+    Ok(())
+}
+
 #[test]
 fn loses_fourteen_hours_of_a_day(rt: HostRuntime) -> Result<(), Fail> {
-    let none: [Rule; 0] = [];
-    let kept = broken(rt.alloc(), DEFER_1, &[], &[(Wait, 840)])?;
-    assert_eq!(rt; kept.as_slice(), none.as_slice());
-    let over = broken(rt.alloc(), DEFER_1, &[], &[(Wait, 841)])?;
-    assert_eq!(rt; over.as_slice(), [Rule::CaOff10].as_slice());
+    let rows = [
+        Row {
+            marks: &[],
+            parts: &[(Wait, 840)],
+            broken: &[],
+        },
+        Row {
+            marks: &[],
+            parts: &[(Wait, 841)],
+            broken: &[Rule::CaOff10],
+        },
+        // A rest of 29 minutes is lost, and one of 30 is not.
+        Row {
+            marks: &[],
+            parts: &[(Wait, 811), (Off, 29), (Wait, 1)],
+            broken: &[Rule::CaOff10],
+        },
+        Row {
+            marks: &[],
+            parts: &[(Wait, 811), (Off, 30), (Wait, 1)],
+            broken: &[],
+        },
+        // Over midnight: 15 minutes of the short rest are lost in the first day.
+        Row {
+            marks: &[],
+            parts: &[(Off, 599), (Wait, 826), (Off, 29), (Wait, 1)],
+            broken: &[Rule::CaOff10],
+        },
+        Row {
+            marks: &[],
+            parts: &[(Off, 600), (Wait, 825), (Off, 29), (Wait, 1)],
+            broken: &[],
+        },
+        Row {
+            marks: &[],
+            parts: &[(Off, 599), (Wait, 826), (Off, 30), (Wait, 1)],
+            broken: &[],
+        },
+        // And 14 of them in the second one.
+        Row {
+            marks: &[],
+            parts: &[(Off, 1_424), (Wait, 1), (Off, 29), (Wait, 827)],
+            broken: &[Rule::CaOff10],
+        },
+        Row {
+            marks: &[],
+            parts: &[(Off, 1_424), (Wait, 1), (Off, 29), (Wait, 826)],
+            broken: &[],
+        },
+        Row {
+            marks: &[],
+            parts: &[(Off, 1_424), (Wait, 1), (Off, 30), (Wait, 827)],
+            broken: &[],
+        },
+        // The rest that a history ends with goes on, however short it is.
+        Row {
+            marks: &[],
+            parts: &[(Wait, 840), (Off, 10)],
+            broken: &[],
+        },
+    ];
+    assert_eq!(rt; first_wrong(rt.alloc(), DEFER_1, rows.as_slice())?, None);
+    Ok(())
+}
+
+#[test]
+fn defers_two_hours_of_rest(rt: HostRuntime) -> Result<(), Fail> {
+    let rows = [
+        // On duty to 16:00, and off to the second day after at 06:00.
+        Row {
+            marks: &[defer(0)],
+            parts: &[(Wait, 960), (Off, 2_280)],
+            broken: &[],
+        },
+        Row {
+            marks: &[],
+            parts: &[(Wait, 960), (Off, 2_280)],
+            broken: &[Rule::CaOff10],
+        },
+        Row {
+            marks: &[defer(0)],
+            parts: &[(Wait, 961), (Off, 2_279)],
+            broken: &[Rule::CaDefer],
+        },
+        // A day that loses no more than it may defers nothing.
+        Row {
+            marks: &[defer(0)],
+            parts: &[(Wait, 840), (Off, 2_400)],
+            broken: &[Rule::CaDefer],
+        },
+        Row {
+            marks: &[defer(0)],
+            parts: &[(Wait, 841), (Off, 2_399)],
+            broken: &[],
+        },
+        // On duty to 16:00, off to 02:00, and on duty to 14:00: 28 hours in two days.
+        Row {
+            marks: &[defer(0)],
+            parts: &[(Wait, 960), (Off, 600), (Wait, 720), (Off, 960)],
+            broken: &[],
+        },
+        Row {
+            marks: &[defer(0)],
+            parts: &[(Wait, 960), (Off, 600), (Wait, 721), (Off, 959)],
+            broken: &[Rule::CaDefer],
+        },
+        // The rest in the second day has ten hours, and a minute less is too short.
+        Row {
+            marks: &[defer(0)],
+            parts: &[
+                (Wait, 960),
+                (Off, 599),
+                (Wait, 300),
+                (Off, 500),
+                (Wait, 1),
+                (Off, 540),
+                (Wait, 1),
+            ],
+            broken: &[Rule::CaDefer],
+        },
+        Row {
+            marks: &[defer(0)],
+            parts: &[
+                (Wait, 960),
+                (Off, 600),
+                (Wait, 300),
+                (Off, 500),
+                (Wait, 1),
+                (Off, 540),
+                (Wait, 1),
+            ],
+            broken: &[],
+        },
+        // Two deferrals, one after the other.
+        Row {
+            marks: &[defer(0), defer(2)],
+            parts: &[
+                (Wait, 960),
+                (Off, 600),
+                (Wait, 720),
+                (Off, 720),
+                (Wait, 960),
+                (Off, 600),
+                (Wait, 720),
+            ],
+            broken: &[],
+        },
+        // The day after a deferred one is not deferred itself.
+        Row {
+            marks: &[defer(0), defer(1)],
+            parts: &[(Wait, 960), (Off, 2_280)],
+            broken: &[Rule::CaDefer],
+        },
+        Row {
+            marks: &[defer(0), defer(1)],
+            parts: &[(Wait, 841), (Off, 599), (Wait, 841), (Off, 959)],
+            broken: &[Rule::CaDefer],
+        },
+        // A mark of a day long before.
+        Row {
+            marks: &[Mark::DeferDay { day: -1 }],
+            parts: &[(Wait, 60)],
+            broken: &[Rule::CaDefer],
+        },
+    ];
+    assert_eq!(rt; first_wrong(rt.alloc(), DEFER_1, rows.as_slice())?, None);
+    Ok(())
+}
+
+#[test]
+fn defers_no_rest_where_rest_is_split(rt: HostRuntime) -> Result<(), Fail> {
+    let rows = [
+        Row {
+            marks: &[],
+            parts: &[(Wait, 960), (Off, 2_280)],
+            broken: &[Rule::CaOff10],
+        },
+        Row {
+            marks: &[defer(0)],
+            parts: &[(Wait, 960), (Off, 2_280)],
+            broken: &[Rule::CaDefer],
+        },
+    ];
+    assert_eq!(rt; first_wrong(rt.alloc(), SPLIT_1, rows.as_slice())?, None);
+    Ok(())
+}
+
+#[test]
+fn pairs_split_rests_in_the_berth(rt: HostRuntime) -> Result<(), Fail> {
+    let rows = [
+        Row {
+            marks: &[split(300), split(840)],
+            parts: &[
+                (Wait, 300),
+                (Berth, 240),
+                (Wait, 300),
+                (Berth, 360),
+                (Drive, 1),
+            ],
+            broken: &[],
+        },
+        Row {
+            marks: &[split(300), split(840)],
+            parts: &[
+                (Wait, 300),
+                (Berth, 240),
+                (Wait, 300),
+                (Berth, 359),
+                (Drive, 1),
+            ],
+            broken: &[Rule::CaPair],
+        },
+        // The second rest is a full one, and not all in the berth.
+        Row {
+            marks: &[split(300)],
+            parts: &[
+                (Wait, 300),
+                (Berth, 240),
+                (Wait, 300),
+                (Berth, 479),
+                (Off, 1),
+                (Drive, 1),
+            ],
+            broken: &[Rule::CaPair],
+        },
+        Row {
+            marks: &[split(300)],
+            parts: &[
+                (Wait, 300),
+                (Berth, 240),
+                (Wait, 300),
+                (Berth, 480),
+                (Drive, 1),
+            ],
+            broken: &[],
+        },
+        // The first rest has two hours at least, all in the berth.
+        Row {
+            marks: &[split(300)],
+            parts: &[
+                (Wait, 300),
+                (Berth, 120),
+                (Wait, 300),
+                (Berth, 480),
+                (Drive, 1),
+            ],
+            broken: &[],
+        },
+        Row {
+            marks: &[split(300)],
+            parts: &[
+                (Wait, 300),
+                (Berth, 119),
+                (Wait, 300),
+                (Berth, 481),
+                (Drive, 1),
+            ],
+            broken: &[Rule::CaPair],
+        },
+        Row {
+            marks: &[split(300)],
+            parts: &[
+                (Wait, 300),
+                (Off, 1),
+                (Berth, 239),
+                (Wait, 300),
+                (Berth, 480),
+                (Drive, 1),
+            ],
+            broken: &[Rule::CaPair],
+        },
+        // Nothing is asked while the second rest has not ended.
+        Row {
+            marks: &[split(300)],
+            parts: &[(Wait, 300), (Berth, 240), (Wait, 300), (Off, 100)],
+            broken: &[],
+        },
+    ];
+    assert_eq!(rt; first_wrong(rt.alloc(), BERTH_1, rows.as_slice())?, None);
+    // Without a berth no rest is split.
+    let marked = [Row {
+        marks: &[split(300)],
+        parts: &[(Wait, 300), (Berth, 240), (Wait, 300)],
+        broken: &[Rule::CaPair],
+    }];
+    assert_eq!(rt; first_wrong(rt.alloc(), SPLIT_1, marked.as_slice())?, None);
+    Ok(())
+}
+
+#[test]
+fn rests_a_day_in_fourteen(rt: HostRuntime) -> Result<(), Fail> {
+    let days = (Off, 1_380);
+    let rows = [
+        // The 24 hours end where the first work begins.
+        Row {
+            marks: &[],
+            parts: &[
+                (Wait, 60),
+                days,
+                (Wait, 60),
+                days,
+                (Wait, 60),
+                days,
+                (Wait, 60),
+                days,
+                (Wait, 60),
+                days,
+                (Wait, 60),
+                days,
+                (Wait, 60),
+                days,
+                (Wait, 60),
+                days,
+                (Wait, 60),
+                days,
+                (Wait, 60),
+                days,
+                (Wait, 60),
+                days,
+                (Wait, 60),
+                days,
+                (Wait, 60),
+                days,
+                (Drive, 1),
+            ],
+            broken: &[],
+        },
+        Row {
+            marks: &[],
+            parts: &[
+                (Wait, 60),
+                days,
+                (Wait, 60),
+                days,
+                (Wait, 60),
+                days,
+                (Wait, 60),
+                days,
+                (Wait, 60),
+                days,
+                (Wait, 60),
+                days,
+                (Wait, 60),
+                days,
+                (Wait, 60),
+                days,
+                (Wait, 60),
+                days,
+                (Wait, 60),
+                days,
+                (Wait, 60),
+                days,
+                (Wait, 60),
+                days,
+                (Wait, 60),
+                days,
+                (Drive, 2),
+            ],
+            broken: &[Rule::Ca24in14],
+        },
+    ];
+    assert_eq!(rt; first_wrong(rt.alloc(), DEFER_1, rows.as_slice())?, None);
+    Ok(())
+}
+
+#[test]
+fn works_seventy_hours_in_cycle_1(rt: HostRuntime) -> Result<(), Fail> {
+    let day = (Wait, 600);
+    let night = (Off, 840);
+    let long = (Wait, 840);
+    let short = (Off, 600);
+    let rows = [
+        // Ten hours in each of seven days.
+        Row {
+            marks: &[],
+            parts: &[
+                day,
+                night,
+                day,
+                night,
+                day,
+                night,
+                day,
+                night,
+                day,
+                night,
+                day,
+                night,
+                (Wait, 599),
+                (Drive, 1),
+            ],
+            broken: &[],
+        },
+        Row {
+            marks: &[],
+            parts: &[
+                day,
+                night,
+                day,
+                night,
+                day,
+                night,
+                day,
+                night,
+                day,
+                night,
+                day,
+                night,
+                (Wait, 599),
+                (Drive, 2),
+            ],
+            broken: &[Rule::CaCycle],
+        },
+        // The first day counts no longer in the eighth.
+        Row {
+            marks: &[],
+            parts: &[
+                day,
+                night,
+                day,
+                night,
+                day,
+                night,
+                day,
+                night,
+                day,
+                night,
+                day,
+                night,
+                day,
+                night,
+                (Drive, 600),
+            ],
+            broken: &[],
+        },
+        // Fourteen hours in each of five days, and 36 hours of rest, or a minute less.
+        Row {
+            marks: &[],
+            parts: &[
+                long,
+                short,
+                long,
+                short,
+                long,
+                short,
+                long,
+                short,
+                long,
+                (Off, 2_160),
+                (Drive, 1),
+            ],
+            broken: &[],
+        },
+        Row {
+            marks: &[],
+            parts: &[
+                long,
+                short,
+                long,
+                short,
+                long,
+                short,
+                long,
+                short,
+                long,
+                (Off, 2_159),
+                (Drive, 1),
+            ],
+            broken: &[Rule::CaCycle],
+        },
+    ];
+    assert_eq!(rt; first_wrong(rt.alloc(), DEFER_1, rows.as_slice())?, None);
+    Ok(())
+}
+
+#[test]
+fn works_a_hundred_and_twenty_hours_in_cycle_2(rt: HostRuntime) -> Result<(), Fail> {
+    let long = (Wait, 840);
+    let short = (Off, 600);
+    let rows = [
+        // Seventy hours, a day off, and fifty hours.
+        Row {
+            marks: &[],
+            parts: &[
+                long,
+                short,
+                long,
+                short,
+                long,
+                short,
+                long,
+                short,
+                long,
+                (Off, 2_040),
+                (Wait, 750),
+                (Off, 690),
+                (Wait, 750),
+                (Off, 690),
+                (Wait, 750),
+                (Off, 690),
+                (Wait, 749),
+                (Drive, 1),
+            ],
+            broken: &[],
+        },
+        Row {
+            marks: &[],
+            parts: &[
+                long,
+                short,
+                long,
+                short,
+                long,
+                short,
+                long,
+                short,
+                long,
+                (Off, 2_040),
+                (Wait, 750),
+                (Off, 690),
+                (Wait, 750),
+                (Off, 690),
+                (Wait, 750),
+                (Off, 690),
+                (Wait, 749),
+                (Drive, 2),
+            ],
+            broken: &[Rule::CaCycle],
+        },
+        // And then 72 hours of rest, or a minute less.
+        Row {
+            marks: &[],
+            parts: &[
+                long,
+                short,
+                long,
+                short,
+                long,
+                short,
+                long,
+                short,
+                long,
+                (Off, 2_040),
+                (Wait, 750),
+                (Off, 690),
+                (Wait, 750),
+                (Off, 690),
+                (Wait, 750),
+                (Off, 690),
+                (Wait, 750),
+                (Off, 4_320),
+                (Drive, 1),
+            ],
+            broken: &[],
+        },
+        Row {
+            marks: &[],
+            parts: &[
+                long,
+                short,
+                long,
+                short,
+                long,
+                short,
+                long,
+                short,
+                long,
+                (Off, 2_040),
+                (Wait, 750),
+                (Off, 690),
+                (Wait, 750),
+                (Off, 690),
+                (Wait, 750),
+                (Off, 690),
+                (Wait, 750),
+                (Off, 4_319),
+                (Drive, 1),
+            ],
+            broken: &[Rule::CaCycle],
+        },
+        // Seventy hours without 24 hours of rest, and a minute of driving more.
+        Row {
+            marks: &[],
+            parts: &[
+                long,
+                short,
+                long,
+                short,
+                long,
+                short,
+                long,
+                short,
+                long,
+                (Off, 1_440),
+                (Drive, 1),
+            ],
+            broken: &[],
+        },
+        Row {
+            marks: &[],
+            parts: &[
+                long,
+                short,
+                long,
+                short,
+                long,
+                short,
+                long,
+                short,
+                long,
+                (Off, 1_439),
+                (Drive, 1),
+            ],
+            broken: &[Rule::Ca70without24],
+        },
+    ];
+    assert_eq!(rt; first_wrong(rt.alloc(), DEFER_2, rows.as_slice())?, None);
     Ok(())
 }
