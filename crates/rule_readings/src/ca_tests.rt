@@ -6,7 +6,7 @@ ghost use Rattle.rule_readings.specs.CaCounts.{IsCaRule};
 use crate::ca::keeps_ca;
 use crate::padded::Padded;
 use duty_core::Activity::{Berth, Drive, Off, Wait};
-use duty_core::{Activity, Mark, Marks, Minute, Params, RestWay, Rule};
+use duty_core::{Activity, DAY_MINUTES, Mark, Marks, Minute, Params, RestWay, Rule};
 use std::alloc::Global;
 use std::test::Fail;
 use timeline::Timeline;
@@ -112,20 +112,32 @@ struct Row<'a> {
     broken: &'a [Rule],
 }
 
-/// The history of these runs.
-fn history_of(alloc: Global, parts: &[(Activity, u32)]) -> Result<Timeline, Fail> {
+/// So many days before a history's runs, each with so many minutes of duty at its begin.
+#[derive(Clone, Copy)]
+struct Days {
+    count: u32,
+    duty: u32,
+}
+
+/// The history of these days and these runs.
+fn history_of(alloc: Global, days: Days, parts: &[(Activity, u32)]) -> Result<Timeline, Fail> {
     let mut history = Timeline::new(alloc);
+    for _ in 0..days.count {
+        history.push_run(Wait, days.duty)?;
+        history.push_run(Off, DAY_MINUTES.saturating_sub(days.duty))?;
+    }
     for (act, n) in parts {
         history.push_run(*act, *n)?;
     }
     Ok(history)
 }
 
-/// The rules that the history of these runs breaks with these marks, in their order.
+/// The rules that the history of these days and runs breaks with these marks, in their order.
 fn broken(
     alloc: Global,
     way: Way,
     marks: &[Mark],
+    days: Days,
     parts: &[(Activity, u32)],
 ) -> Result<Vec<Rule>, Fail> {
     let params = Params::Canada {
@@ -138,7 +150,7 @@ fn broken(
     for mark in marks {
         all.push(*mark)?;
     }
-    let history = history_of(alloc, parts)?;
+    let history = history_of(alloc, days, parts)?;
     let padded = Padded::new(alloc, params, &history)?;
     let mut found = Vec::new(alloc);
     for rule in ca_rules() {
@@ -149,15 +161,25 @@ fn broken(
     Ok(found)
 }
 
-/// The place of the first row whose history breaks other rules than its own.
-fn first_wrong(alloc: Global, way: Way, rows: &[Row]) -> Result<Option<usize>, Fail> {
+/// The place of the first row whose history, behind these days, breaks other rules than its own.
+fn first_wrong_after(
+    alloc: Global,
+    way: Way,
+    days: Days,
+    rows: &[Row],
+) -> Result<Option<usize>, Fail> {
     for (i, row) in rows.iter().enumerate() {
-        let found = broken(alloc, way, row.marks, row.parts)?;
+        let found = broken(alloc, way, row.marks, days, row.parts)?;
         if found.as_slice() != row.broken {
             return Ok(Some(i));
         }
     }
     Ok(None)
+}
+
+/// The place of the first row whose history breaks other rules than its own.
+fn first_wrong(alloc: Global, way: Way, rows: &[Row]) -> Result<Option<usize>, Fail> {
+    first_wrong_after(alloc, way, Days { count: 0, duty: 0 }, rows)
 }
 
 #[test]
@@ -282,6 +304,14 @@ fn loses_fourteen_hours_of_a_day(rt: HostRuntime) -> Result<(), Fail> {
             parts: &[(Wait, 811), (Off, 30), (Wait, 1)],
             broken: &[],
         },
+    ];
+    assert_eq!(rt; first_wrong(rt.alloc(), DEFER_1, rows.as_slice())?, None);
+    Ok(())
+}
+
+#[test]
+fn loses_short_rests_over_midnight(rt: HostRuntime) -> Result<(), Fail> {
+    let rows = [
         // Over midnight: 15 minutes of the short rest are lost in the first day.
         Row {
             marks: &[],
@@ -366,6 +396,14 @@ fn defers_two_hours_of_rest(rt: HostRuntime) -> Result<(), Fail> {
             parts: &[(Wait, 960), (Off, 600), (Wait, 721), (Off, 959)],
             broken: &[Rule::CaDefer],
         },
+    ];
+    assert_eq!(rt; first_wrong(rt.alloc(), DEFER_1, rows.as_slice())?, None);
+    Ok(())
+}
+
+#[test]
+fn takes_deferred_rest_in_the_next_day(rt: HostRuntime) -> Result<(), Fail> {
+    let rows = [
         // The rest in the second day has ten hours, and a minute less is too short.
         Row {
             marks: &[defer(0)],
@@ -496,6 +534,14 @@ fn pairs_split_rests_in_the_berth(rt: HostRuntime) -> Result<(), Fail> {
             ],
             broken: &[],
         },
+    ];
+    assert_eq!(rt; first_wrong(rt.alloc(), BERTH_1, rows.as_slice())?, None);
+    Ok(())
+}
+
+#[test]
+fn splits_two_hours_in_the_berth(rt: HostRuntime) -> Result<(), Fail> {
+    let rows = [
         // The first rest has two hours at least, all in the berth.
         Row {
             marks: &[split(300)],
@@ -551,215 +597,129 @@ fn pairs_split_rests_in_the_berth(rt: HostRuntime) -> Result<(), Fail> {
 
 #[test]
 fn rests_a_day_in_fourteen(rt: HostRuntime) -> Result<(), Fail> {
-    let days = (Off, 1_380);
+    // The 24 hours end where the first work begins.
     let rows = [
-        // The 24 hours end where the first work begins.
         Row {
             marks: &[],
-            parts: &[
-                (Wait, 60),
-                days,
-                (Wait, 60),
-                days,
-                (Wait, 60),
-                days,
-                (Wait, 60),
-                days,
-                (Wait, 60),
-                days,
-                (Wait, 60),
-                days,
-                (Wait, 60),
-                days,
-                (Wait, 60),
-                days,
-                (Wait, 60),
-                days,
-                (Wait, 60),
-                days,
-                (Wait, 60),
-                days,
-                (Wait, 60),
-                days,
-                (Wait, 60),
-                days,
-                (Drive, 1),
-            ],
+            parts: &[(Drive, 1)],
             broken: &[],
         },
         Row {
             marks: &[],
-            parts: &[
-                (Wait, 60),
-                days,
-                (Wait, 60),
-                days,
-                (Wait, 60),
-                days,
-                (Wait, 60),
-                days,
-                (Wait, 60),
-                days,
-                (Wait, 60),
-                days,
-                (Wait, 60),
-                days,
-                (Wait, 60),
-                days,
-                (Wait, 60),
-                days,
-                (Wait, 60),
-                days,
-                (Wait, 60),
-                days,
-                (Wait, 60),
-                days,
-                (Wait, 60),
-                days,
-                (Drive, 2),
-            ],
+            parts: &[(Drive, 2)],
             broken: &[Rule::Ca24in14],
         },
     ];
-    assert_eq!(rt; first_wrong(rt.alloc(), DEFER_1, rows.as_slice())?, None);
+    let days = Days {
+        count: 13,
+        duty: 60,
+    };
+    assert_eq!(rt;
+        first_wrong_after(rt.alloc(), DEFER_1, days, rows.as_slice())?,
+        None
+    );
     Ok(())
 }
 
 #[test]
 fn works_seventy_hours_in_cycle_1(rt: HostRuntime) -> Result<(), Fail> {
-    let day = (Wait, 600);
-    let night = (Off, 840);
-    let long = (Wait, 840);
-    let short = (Off, 600);
+    // Ten hours in each of seven days. The first one counts no longer in the eighth.
     let rows = [
-        // Ten hours in each of seven days.
         Row {
             marks: &[],
-            parts: &[
-                day,
-                night,
-                day,
-                night,
-                day,
-                night,
-                day,
-                night,
-                day,
-                night,
-                day,
-                night,
-                (Wait, 599),
-                (Drive, 1),
-            ],
+            parts: &[(Wait, 599), (Drive, 1)],
             broken: &[],
         },
         Row {
             marks: &[],
-            parts: &[
-                day,
-                night,
-                day,
-                night,
-                day,
-                night,
-                day,
-                night,
-                day,
-                night,
-                day,
-                night,
-                (Wait, 599),
-                (Drive, 2),
-            ],
+            parts: &[(Wait, 599), (Drive, 2)],
             broken: &[Rule::CaCycle],
         },
-        // The first day counts no longer in the eighth.
         Row {
             marks: &[],
-            parts: &[
-                day,
-                night,
-                day,
-                night,
-                day,
-                night,
-                day,
-                night,
-                day,
-                night,
-                day,
-                night,
-                day,
-                night,
-                (Drive, 600),
-            ],
+            parts: &[(Wait, 600), (Off, 840), (Drive, 600)],
             broken: &[],
         },
-        // Fourteen hours in each of five days, and 36 hours of rest, or a minute less.
+    ];
+    let days = Days {
+        count: 6,
+        duty: 600,
+    };
+    assert_eq!(rt;
+        first_wrong_after(rt.alloc(), DEFER_1, days, rows.as_slice())?,
+        None
+    );
+    Ok(())
+}
+
+#[test]
+fn begins_cycle_1_anew_after_thirty_six_hours(rt: HostRuntime) -> Result<(), Fail> {
+    // Fourteen hours in each of five days.
+    let rows = [
         Row {
             marks: &[],
-            parts: &[
-                long,
-                short,
-                long,
-                short,
-                long,
-                short,
-                long,
-                short,
-                long,
-                (Off, 2_160),
-                (Drive, 1),
-            ],
+            parts: &[(Wait, 840), (Off, 2_160), (Drive, 1)],
             broken: &[],
         },
         Row {
             marks: &[],
-            parts: &[
-                long,
-                short,
-                long,
-                short,
-                long,
-                short,
-                long,
-                short,
-                long,
-                (Off, 2_159),
-                (Drive, 1),
-            ],
+            parts: &[(Wait, 840), (Off, 2_159), (Drive, 1)],
             broken: &[Rule::CaCycle],
         },
     ];
-    assert_eq!(rt; first_wrong(rt.alloc(), DEFER_1, rows.as_slice())?, None);
+    let days = Days {
+        count: 4,
+        duty: 840,
+    };
+    assert_eq!(rt;
+        first_wrong_after(rt.alloc(), DEFER_1, days, rows.as_slice())?,
+        None
+    );
+    Ok(())
+}
+
+#[test]
+fn works_seventy_hours_without_a_day_off_in_cycle_2(rt: HostRuntime) -> Result<(), Fail> {
+    // Fourteen hours in each of five days.
+    let rows = [
+        Row {
+            marks: &[],
+            parts: &[(Wait, 840), (Off, 1_440), (Drive, 1)],
+            broken: &[],
+        },
+        Row {
+            marks: &[],
+            parts: &[(Wait, 840), (Off, 1_439), (Drive, 1)],
+            broken: &[Rule::Ca70without24],
+        },
+    ];
+    let days = Days {
+        count: 4,
+        duty: 840,
+    };
+    assert_eq!(rt;
+        first_wrong_after(rt.alloc(), DEFER_2, days, rows.as_slice())?,
+        None
+    );
     Ok(())
 }
 
 #[test]
 fn works_a_hundred_and_twenty_hours_in_cycle_2(rt: HostRuntime) -> Result<(), Fail> {
-    let long = (Wait, 840);
-    let short = (Off, 600);
+    // Seventy hours in five days, a day off, and fifty hours in four days.
+    let night = (Off, 690);
     let rows = [
-        // Seventy hours, a day off, and fifty hours.
         Row {
             marks: &[],
             parts: &[
-                long,
-                short,
-                long,
-                short,
-                long,
-                short,
-                long,
-                short,
-                long,
+                (Wait, 840),
                 (Off, 2_040),
                 (Wait, 750),
-                (Off, 690),
+                night,
                 (Wait, 750),
-                (Off, 690),
+                night,
                 (Wait, 750),
-                (Off, 690),
+                night,
                 (Wait, 749),
                 (Drive, 1),
             ],
@@ -768,114 +728,53 @@ fn works_a_hundred_and_twenty_hours_in_cycle_2(rt: HostRuntime) -> Result<(), Fa
         Row {
             marks: &[],
             parts: &[
-                long,
-                short,
-                long,
-                short,
-                long,
-                short,
-                long,
-                short,
-                long,
+                (Wait, 840),
                 (Off, 2_040),
                 (Wait, 750),
-                (Off, 690),
+                night,
                 (Wait, 750),
-                (Off, 690),
+                night,
                 (Wait, 750),
-                (Off, 690),
+                night,
                 (Wait, 749),
                 (Drive, 2),
             ],
             broken: &[Rule::CaCycle],
         },
-        // And then 72 hours of rest, or a minute less.
+    ];
+    let days = Days {
+        count: 4,
+        duty: 840,
+    };
+    assert_eq!(rt;
+        first_wrong_after(rt.alloc(), DEFER_2, days, rows.as_slice())?,
+        None
+    );
+    Ok(())
+}
+
+#[test]
+fn begins_cycle_2_anew_after_seventy_two_hours(rt: HostRuntime) -> Result<(), Fail> {
+    // A hundred and twenty hours in ten days, and 72 hours of rest, or a minute less.
+    let rows = [
         Row {
             marks: &[],
-            parts: &[
-                long,
-                short,
-                long,
-                short,
-                long,
-                short,
-                long,
-                short,
-                long,
-                (Off, 2_040),
-                (Wait, 750),
-                (Off, 690),
-                (Wait, 750),
-                (Off, 690),
-                (Wait, 750),
-                (Off, 690),
-                (Wait, 750),
-                (Off, 4_320),
-                (Drive, 1),
-            ],
+            parts: &[(Wait, 720), (Off, 4_320), (Drive, 1)],
             broken: &[],
         },
         Row {
             marks: &[],
-            parts: &[
-                long,
-                short,
-                long,
-                short,
-                long,
-                short,
-                long,
-                short,
-                long,
-                (Off, 2_040),
-                (Wait, 750),
-                (Off, 690),
-                (Wait, 750),
-                (Off, 690),
-                (Wait, 750),
-                (Off, 690),
-                (Wait, 750),
-                (Off, 4_319),
-                (Drive, 1),
-            ],
+            parts: &[(Wait, 720), (Off, 4_319), (Drive, 1)],
             broken: &[Rule::CaCycle],
         },
-        // Seventy hours without 24 hours of rest, and a minute of driving more.
-        Row {
-            marks: &[],
-            parts: &[
-                long,
-                short,
-                long,
-                short,
-                long,
-                short,
-                long,
-                short,
-                long,
-                (Off, 1_440),
-                (Drive, 1),
-            ],
-            broken: &[],
-        },
-        Row {
-            marks: &[],
-            parts: &[
-                long,
-                short,
-                long,
-                short,
-                long,
-                short,
-                long,
-                short,
-                long,
-                (Off, 1_439),
-                (Drive, 1),
-            ],
-            broken: &[Rule::Ca70without24],
-        },
     ];
-    assert_eq!(rt; first_wrong(rt.alloc(), DEFER_2, rows.as_slice())?, None);
+    let days = Days {
+        count: 9,
+        duty: 720,
+    };
+    assert_eq!(rt;
+        first_wrong_after(rt.alloc(), DEFER_2, days, rows.as_slice())?,
+        None
+    );
     Ok(())
 }
