@@ -13,6 +13,8 @@ mod ca_cycle;
 mod ca_day;
 mod ca_pair;
 mod ca_shift;
+#[cfg(test)]
+mod ca_tests;
 mod days;
 mod declared;
 mod deferral;
