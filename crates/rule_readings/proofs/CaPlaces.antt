@@ -46,15 +46,6 @@ none_past params first p marks rule i n l h = let z : Drive ≡ Off = sym (count
 pub none_resting : (params : Params) (first : ℕ) (p : List Activity) (marks : List Mark) (rule : Rule) (i n : ℕ) (x : Activity) → x ≡ unit_at p i → (x ≡ Drive → ⊥) → IsCaCount params first p marks rule i n → ⊥
 none_resting params first p marks rule i n x e not h = not (e ∙ counted_drives params first p marks rule i n h)
 
--- what an answer within a limit says of the count
-pub count_within : (Counted : ℕ → Type 0) (answer : Option ℕ) (limit : ℕ) → IsCount Counted answer → ((n m : ℕ) → Counted n → Counted m → n ≡ m) → IfSome answer (λ n. n ≤ limit) → (n : ℕ) → Counted n → n ≤ limit
-count_within Counted None limit h one w n c = absurd (h n c)
-count_within Counted (Some m) limit h one w n c = subst (λ k. k ≤ limit) (one m n h c) w
-
-pub within_count : (Counted : ℕ → Type 0) (answer : Option ℕ) (limit : ℕ) → IsCount Counted answer → ((n : ℕ) → Counted n → n ≤ limit) → IfSome answer (λ n. n ≤ limit)
-within_count Counted None limit h w = tt
-within_count Counted (Some m) limit h w = w m h
-
 -- # There is one count at a place
 
 driving_from : (p : List Activity) (i a b n m : ℕ) → a ≡ b → n ≡ driving p a (i + 1) → m ≡ driving p b (i + 1) → n ≡ m

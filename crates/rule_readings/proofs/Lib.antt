@@ -15,3 +15,4 @@ pub mod AuRest
 pub mod AuNightLaws
 pub mod AuNightLoop
 pub mod AuKeepLaws
+pub mod Within

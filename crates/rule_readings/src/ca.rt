@@ -13,6 +13,7 @@ use crate::ca_cycle::{cycle, cycle_duty, duty_since_day_off, limit_of, since_day
 use crate::ca_day::{day_driving, day_duty};
 use crate::ca_pair::keeps_pair;
 use crate::ca_shift::{shift_driving, shift_duty, shift_time};
+use crate::count::is_within;
 use crate::deferral::{keeps_defer, keeps_off10};
 use crate::lost::LostMinutes;
 use crate::padded::Padded;
@@ -84,16 +85,6 @@ pub(crate) fn ca_limit_of(params: Params, rule: Rule) -> u32
         Rule::CaCycle => limit_of(cycle(params)),
         Rule::Ca70without24 => CA_WITHOUT_DAY_OFF_LIMIT,
         _ => 0,
-    }
-}
-
-/// Whether a count, if there is one, is at most the limit.
-fn is_within(count: Option<u32>, limit: u32) -> bool
-    ensures { IsTrue result ↔ IfSome count (λ n. n ≤ limit) }
-{
-    match count {
-        Some(n) => n <= limit,
-        None => true,
     }
 }
 

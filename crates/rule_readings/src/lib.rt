@@ -15,6 +15,7 @@ mod ca_pair;
 mod ca_shift;
 #[cfg(test)]
 mod ca_tests;
+mod count;
 mod days;
 mod declared;
 mod deferral;

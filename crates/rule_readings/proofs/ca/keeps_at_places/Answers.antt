@@ -1,7 +1,8 @@
 use Rattle.std.proofs.Common.{◌≡◌, ◌≤◌, false, true, refl, sym, subst, arith, inl, inr}
 use Rattle.std.proofs.lemmas.Bool.{cases_lt, cases_eq}
 use Rattle.rule_readings.specs.CaCounts.{IsCaCount}
-use Rattle.rule_readings.proofs.CaPlaces.{none_past, one_count, count_within, within_count, within_keeps, keeps_within}
+use Rattle.rule_readings.proofs.Within.{count_within, within_count}
+use Rattle.rule_readings.proofs.CaPlaces.{none_past, one_count, within_keeps, keeps_within}
 use Rattle.rule_readings.proofs.ca.keeps_at_places.Goals as goal
 
 pub loop-i-preserved : goal.loop-i-preserved
