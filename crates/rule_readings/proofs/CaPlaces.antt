@@ -6,7 +6,7 @@ use Rattle.duty_core.specs.declared.mark.Mark.{Mark}
 use Rattle.duty_core.specs.declared.params.Params.{Params}
 use Rattle.duty_core.specs.declared.params.Params.TheVariants.{UsProperty, Canada, Hvnl}
 use Rattle.duty_core.specs.declared.rule.Rule.{Rule}
-use Rattle.duty_core.specs.declared.rule.Rule.TheVariants.{UsWindow14, UsDrive11, UsBreak8, UsWeek, UsPair, CaDay13, CaDay14, CaShift13, CaShift14, CaElapsed16, CaOff10, CaDefer, CaPair, Ca24in14, CaCycle, Ca70without24, Au5h30, Au8h, Au11h, Au24h, Au24hRest, Au7d, Au7dRest, Au14d, Au14dNights}
+use Rattle.duty_core.specs.declared.rule.Rule.TheVariants.{CaDay13, CaDay14, CaShift13, CaShift14, CaElapsed16, Ca24in14, CaCycle, Ca70without24}
 use Rattle.duty_core.specs.declared.limits.TheConstants.{CA_FULL_REST, CA_DAY_OFF, CA_DAY_OFF_WITHIN}
 use Rattle.duty_core.specs.Activity.{rests}
 use Rattle.duty_core.specs.History.{unit_at, pad_days, pad_units}
@@ -22,36 +22,21 @@ use Rattle.duty_core.specs.UniqueLaws.{base_unique, omitted_unique, last_end_uni
 use Rattle.duty_core.specs.ExistLaws.{has_last_end}
 use Rattle.rule_readings.proofs.HeldRuns.{in_run}
 use Rattle.rule_readings.specs.CaHistory.{IsPadded}
-use Rattle.rule_readings.specs.CaCounts.{IsCount, IsSinceDayOff, IsCaCount, IsCaPlaceRule, ca_limit}
+use Rattle.rule_readings.specs.Count.{IsCount}
+use Rattle.rule_readings.specs.CaCounts.{IsSinceDayOff, IsCaCount, IsCaPlaceRule, ca_limit}
 
 -- # A count is made at a unit of driving
 
 pub counted_drives : (params : Params) (first : ℕ) (p : List Activity) (marks : List Mark) (rule : Rule) (i n : ℕ) → IsCaCount params first p marks rule i n → unit_at p i ≡ Drive
-counted_drives params first p marks UsWindow14 i n h = absurd h
-counted_drives params first p marks UsDrive11 i n h = absurd h
-counted_drives params first p marks UsBreak8 i n h = absurd h
-counted_drives params first p marks UsWeek i n h = absurd h
-counted_drives params first p marks UsPair i n h = absurd h
 counted_drives params first p marks CaDay13 i n h = h.drive
 counted_drives params first p marks CaDay14 i n h = h.drive
 counted_drives params first p marks CaShift13 i n h = h.drive
 counted_drives params first p marks CaShift14 i n h = h.drive
 counted_drives params first p marks CaElapsed16 i n h = h.drive
-counted_drives params first p marks CaOff10 i n h = absurd h
-counted_drives params first p marks CaDefer i n h = absurd h
-counted_drives params first p marks CaPair i n h = absurd h
 counted_drives params first p marks Ca24in14 i n h = h.drive
 counted_drives params first p marks CaCycle i n h = h.drive
 counted_drives params first p marks Ca70without24 i n h = h.drive
-counted_drives params first p marks Au5h30 i n h = absurd h
-counted_drives params first p marks Au8h i n h = absurd h
-counted_drives params first p marks Au11h i n h = absurd h
-counted_drives params first p marks Au24h i n h = absurd h
-counted_drives params first p marks Au24hRest i n h = absurd h
-counted_drives params first p marks Au7d i n h = absurd h
-counted_drives params first p marks Au7dRest i n h = absurd h
-counted_drives params first p marks Au14d i n h = absurd h
-counted_drives params first p marks Au14dNights i n h = absurd h
+counted_drives params first p marks _ i n h = absurd h
 
 -- past the end there is none
 pub none_past : (params : Params) (first : ℕ) (p : List Activity) (marks : List Mark) (rule : Rule) (i n : ℕ) → length p ≤ i → IsCaCount params first p marks rule i n → ⊥
@@ -60,15 +45,6 @@ none_past params first p marks rule i n l h = let z : Drive ≡ Off = sym (count
 -- and at no other unit
 pub none_resting : (params : Params) (first : ℕ) (p : List Activity) (marks : List Mark) (rule : Rule) (i n : ℕ) (x : Activity) → x ≡ unit_at p i → (x ≡ Drive → ⊥) → IsCaCount params first p marks rule i n → ⊥
 none_resting params first p marks rule i n x e not h = not (e ∙ counted_drives params first p marks rule i n h)
-
--- what an answer within a limit says of the count
-pub count_within : (Counted : ℕ → Type 0) (answer : Option ℕ) (limit : ℕ) → IsCount Counted answer → ((n m : ℕ) → Counted n → Counted m → n ≡ m) → IfSome answer (λ n. n ≤ limit) → (n : ℕ) → Counted n → n ≤ limit
-count_within Counted None limit h one w n c = absurd (h n c)
-count_within Counted (Some m) limit h one w n c = subst (λ k. k ≤ limit) (one m n h c) w
-
-pub within_count : (Counted : ℕ → Type 0) (answer : Option ℕ) (limit : ℕ) → IsCount Counted answer → ((n : ℕ) → Counted n → n ≤ limit) → IfSome answer (λ n. n ≤ limit)
-within_count Counted None limit h w = tt
-within_count Counted (Some m) limit h w = w m h
 
 -- # There is one count at a place
 
@@ -79,11 +55,6 @@ duty_from : (p : List Activity) (i a b n m : ℕ) → a ≡ b → n ≡ duty p a
 duty_from p i a b n m e x y = x ∙ (ap (λ k. duty p k (i + 1)) e ∙ sym y)
 
 pub one_count : (params : Params) (first : ℕ) (p : List Activity) (marks : List Mark) (rule : Rule) (i n m : ℕ) → IsCaCount params first p marks rule i n → IsCaCount params first p marks rule i m → n ≡ m
-one_count params first p marks UsWindow14 i n m h g = absurd h
-one_count params first p marks UsDrive11 i n m h g = absurd h
-one_count params first p marks UsBreak8 i n m h g = absurd h
-one_count params first p marks UsWeek i n m h g = absurd h
-one_count params first p marks UsPair i n m h g = absurd h
 one_count params first p marks CaDay13 i n m h g = driving_from p i h.from g.from n m (first_of_days_unique (day_number params first) 1 i h.from g.from h.first g.first) h.counted g.counted
 one_count params first p marks CaDay14 i n m h g = duty_from p i h.from g.from n m (first_of_days_unique (day_number params first) 1 i h.from g.from h.first g.first) h.counted g.counted
 one_count params first p marks CaShift13 i n m h g = driving_from p i h.base g.base n m (base_unique CA_FULL_REST p (IsSplitAt params first marks) i h.base h.omitted g.base g.omitted h.found g.found) h.counted g.counted
@@ -94,21 +65,10 @@ one_count params first p marks CaElapsed16 i n m h g = (
     let x = h.counted in
     let y = g.counted in
     omega arith)
-one_count params first p marks CaOff10 i n m h g = absurd h
-one_count params first p marks CaDefer i n m h g = absurd h
-one_count params first p marks CaPair i n m h g = absurd h
 one_count params first p marks Ca24in14 i n m h g = (let e = last_end_unique CA_DAY_OFF p i h.to g.to h.last g.last in let x = h.counted in let y = g.counted in omega arith)
 one_count params first p marks CaCycle i n m h g = duty_from p i h.from g.from n m (days_base_unique (day_number params first) (cycle_days (cycle_of params)) (cycle_reset (cycle_of params)) p i h.from g.from h.base g.base) h.counted g.counted
 one_count params first p marks Ca70without24 i n m h g = duty_from p i h.from g.from n m (last_end_unique CA_DAY_OFF p i h.from g.from h.last g.last) h.counted g.counted
-one_count params first p marks Au5h30 i n m h g = absurd h
-one_count params first p marks Au8h i n m h g = absurd h
-one_count params first p marks Au11h i n m h g = absurd h
-one_count params first p marks Au24h i n m h g = absurd h
-one_count params first p marks Au24hRest i n m h g = absurd h
-one_count params first p marks Au7d i n m h g = absurd h
-one_count params first p marks Au7dRest i n m h g = absurd h
-one_count params first p marks Au14d i n m h g = absurd h
-one_count params first p marks Au14dNights i n m h g = absurd h
+one_count params first p marks _ i n m h g = absurd h
 
 -- # 24 hours of rest
 
@@ -166,55 +126,23 @@ abbrev pub AreWithin : Params → ℕ → List Activity → List Mark → Rule �
 AreWithin params first p marks rule = (i n : ℕ) → IsCaCount params first p marks rule i n → n ≤ ca_limit params rule
 
 pub within_keeps : (params : Params) (first : ℕ) (p : List Activity) (marks : List Mark) (rule : Rule) → IsPadded params p → IsCaPlaceRule rule → AreWithin params first p marks rule → KeepsPadded params first p marks rule
-within_keeps params first p marks UsWindow14 w y h = absurd y
-within_keeps params first p marks UsDrive11 w y h = absurd y
-within_keeps params first p marks UsBreak8 w y h = absurd y
-within_keeps params first p marks UsWeek w y h = absurd y
-within_keeps params first p marks UsPair w y h = absurd y
 within_keeps params first p marks CaDay13 w y h = λ i d from f. h i (driving p from (i + 1)) (record { drive = d; from = from; first = f; counted = refl })
 within_keeps params first p marks CaDay14 w y h = λ i d from f. h i (duty p from (i + 1)) (record { drive = d; from = from; first = f; counted = refl })
 within_keeps params first p marks CaShift13 w y h = λ i d b o f. h i (driving p b (i + 1)) (record { drive = d; base = b; omitted = o; found = f; counted = refl })
 within_keeps params first p marks CaShift14 w y h = λ i d b o f. h i (duty p b (i + 1)) (record { drive = d; base = b; omitted = o; found = f; counted = refl })
 within_keeps params first p marks CaElapsed16 w y h = λ i d b o f. h i (elapsed b o (i + 1)) (record { drive = d; base = b; omitted = o; found = f; counted = refl })
-within_keeps params first p marks CaOff10 w y h = absurd y
-within_keeps params first p marks CaDefer w y h = absurd y
-within_keeps params first p marks CaPair w y h = absurd y
 within_keeps params first p marks Ca24in14 w y h = since_keeps p h (day_off_there params p w)
 within_keeps params first p marks CaCycle w y h = λ i d from f. h i (duty p from (i + 1)) (record { drive = d; from = from; base = f; counted = refl })
 within_keeps params first p marks Ca70without24 w y h = λ i c d from f. h i (duty p from (i + 1)) (record { cycle_2 = c; drive = d; from = from; last = f; counted = refl })
-within_keeps params first p marks Au5h30 w y h = absurd y
-within_keeps params first p marks Au8h w y h = absurd y
-within_keeps params first p marks Au11h w y h = absurd y
-within_keeps params first p marks Au24h w y h = absurd y
-within_keeps params first p marks Au24hRest w y h = absurd y
-within_keeps params first p marks Au7d w y h = absurd y
-within_keeps params first p marks Au7dRest w y h = absurd y
-within_keeps params first p marks Au14d w y h = absurd y
-within_keeps params first p marks Au14dNights w y h = absurd y
+within_keeps params first p marks _ w y h = absurd y
 
 pub keeps_within : (params : Params) (first : ℕ) (p : List Activity) (marks : List Mark) (rule : Rule) → IsCaPlaceRule rule → KeepsPadded params first p marks rule → AreWithin params first p marks rule
-keeps_within params first p marks UsWindow14 y h = absurd y
-keeps_within params first p marks UsDrive11 y h = absurd y
-keeps_within params first p marks UsBreak8 y h = absurd y
-keeps_within params first p marks UsWeek y h = absurd y
-keeps_within params first p marks UsPair y h = absurd y
 keeps_within params first p marks CaDay13 y h = λ i n g. subst (λ m. m ≤ ca_limit params CaDay13) (sym g.counted) (h i g.drive g.from g.first)
 keeps_within params first p marks CaDay14 y h = λ i n g. subst (λ m. m ≤ ca_limit params CaDay14) (sym g.counted) (h i g.drive g.from g.first)
 keeps_within params first p marks CaShift13 y h = λ i n g. subst (λ m. m ≤ ca_limit params CaShift13) (sym g.counted) (h i g.drive g.base g.omitted g.found)
 keeps_within params first p marks CaShift14 y h = λ i n g. subst (λ m. m ≤ ca_limit params CaShift14) (sym g.counted) (h i g.drive g.base g.omitted g.found)
 keeps_within params first p marks CaElapsed16 y h = λ i n g. subst (λ m. m ≤ ca_limit params CaElapsed16) (sym g.counted) (h i g.drive g.base g.omitted g.found)
-keeps_within params first p marks CaOff10 y h = absurd y
-keeps_within params first p marks CaDefer y h = absurd y
-keeps_within params first p marks CaPair y h = absurd y
 keeps_within params first p marks Ca24in14 y h = keeps_since p h
 keeps_within params first p marks CaCycle y h = λ i n g. subst (λ m. m ≤ ca_limit params CaCycle) (sym g.counted) (h i g.drive g.from g.base)
 keeps_within params first p marks Ca70without24 y h = λ i n g. subst (λ m. m ≤ ca_limit params Ca70without24) (sym g.counted) (h i g.cycle_2 g.drive g.from g.last)
-keeps_within params first p marks Au5h30 y h = absurd y
-keeps_within params first p marks Au8h y h = absurd y
-keeps_within params first p marks Au11h y h = absurd y
-keeps_within params first p marks Au24h y h = absurd y
-keeps_within params first p marks Au24hRest y h = absurd y
-keeps_within params first p marks Au7d y h = absurd y
-keeps_within params first p marks Au7dRest y h = absurd y
-keeps_within params first p marks Au14d y h = absurd y
-keeps_within params first p marks Au14dNights y h = absurd y
+keeps_within params first p marks _ y h = absurd y

@@ -13,7 +13,7 @@ use Rattle.duty_core.specs.Day.{IsNumberOfDay, day_number}
 use Rattle.duty_core.specs.Counting.{places}
 use Rattle.duty_core.specs.LostMinutes.{is_lost, lost}
 use Rattle.rule_readings.specs.CaHistory.{IsByMinutes}
-use Rattle.rule_readings.proofs.DayFacts.{days_rise}
+use Rattle.rule_readings.proofs.DayBases.{days_rise}
 
 -- a day from day 0 on
 pub number_after : (day : ℤ) (a : ℕ) → a ≡ nat_abs day → lt_z day (pos 0) ≡ false → IsNumberOfDay day (29 + a)

@@ -6,8 +6,6 @@ pub mod PairRuns
 pub mod DayBases
 pub mod UsPlaces
 pub mod LostFacts
-pub mod LastEnds
-pub mod DayFacts
 pub mod HeldRuns
 pub mod CaPlaces
 pub mod DayNumbers
@@ -17,3 +15,4 @@ pub mod AuRest
 pub mod AuNightLaws
 pub mod AuNightLoop
 pub mod AuKeepLaws
+pub mod Within

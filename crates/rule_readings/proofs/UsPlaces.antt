@@ -111,15 +111,6 @@ one_count params first p marks UsWeek i n m h g =
     h.counted ∙ (ap (λ b. duty p b (i + 1)) (days_base_unique (day_number params first) (week_days params) US_RESTART p i h.from g.from h.found g.found) ∙ sym g.counted)
 one_count params first p marks _ i n m h g = absurd h
 
--- what an answer within a limit says of the count
-pub count_within : (Counted : ℕ → Type 0) (answer : Option ℕ) (limit : ℕ) → IsCount Counted answer → ((n m : ℕ) → Counted n → Counted m → n ≡ m) → IfSome answer (λ n. n ≤ limit) → (n : ℕ) → Counted n → n ≤ limit
-count_within Counted None limit h one w n c = absurd (h n c)
-count_within Counted (Some m) limit h one w n c = subst (λ k. k ≤ limit) (one m n h c) w
-
-pub within_count : (Counted : ℕ → Type 0) (answer : Option ℕ) (limit : ℕ) → IsCount Counted answer → ((n : ℕ) → Counted n → n ≤ limit) → IfSome answer (λ n. n ≤ limit)
-within_count Counted None limit h w = tt
-within_count Counted (Some m) limit h w = w m h
-
 -- # Keeping a rule, by its counts
 
 abbrev pub AreWithin : Params → ℕ → List Activity → List Mark → Rule → Type 0

@@ -1,11 +1,11 @@
 -- What the Canadian rules count at a place of a padded history p, and how much of it each allows. A unit is a minute.
-use Rattle.std.specs.Prelude.{◌≡◌, ℕ, ◌+◌, List, Option, Some, None}
+use Rattle.std.specs.Prelude.{◌≡◌, ℕ, ◌+◌, List}
 use Rattle.duty_core.specs.declared.activity.Activity.{Activity}
 use Rattle.duty_core.specs.declared.activity.Activity.TheVariants.{Drive}
 use Rattle.duty_core.specs.declared.mark.Mark.{Mark}
 use Rattle.duty_core.specs.declared.params.Params.{Params}
 use Rattle.duty_core.specs.declared.rule.Rule.{Rule}
-use Rattle.duty_core.specs.declared.rule.Rule.TheVariants.{UsWindow14, UsDrive11, UsBreak8, UsWeek, UsPair, CaDay13, CaDay14, CaShift13, CaShift14, CaElapsed16, CaOff10, CaDefer, CaPair, Ca24in14, CaCycle, Ca70without24, Au5h30, Au8h, Au11h, Au24h, Au24hRest, Au7d, Au7dRest, Au14d, Au14dNights}
+use Rattle.duty_core.specs.declared.rule.Rule.TheVariants.{CaDay13, CaDay14, CaShift13, CaShift14, CaElapsed16, CaOff10, CaDefer, CaPair, Ca24in14, CaCycle, Ca70without24}
 use Rattle.duty_core.specs.declared.limits.TheConstants.{CA_DAY_DRIVING_LIMIT, CA_DAY_DUTY_LIMIT, CA_SHIFT_DRIVING_LIMIT, CA_SHIFT_DUTY_LIMIT, CA_ELAPSED_LIMIT, CA_FULL_REST, CA_DAY_OFF, CA_DAY_OFF_WITHIN, CA_CYCLE_2, CA_WITHOUT_DAY_OFF_LIMIT}
 use Rattle.duty_core.specs.History.{unit_at}
 use Rattle.duty_core.specs.Day.{day_number, IsFirstOfDays}
@@ -14,11 +14,6 @@ use Rattle.duty_core.specs.Marks.{IsSplitAt}
 use Rattle.duty_core.specs.Base.{IsBase, elapsed}
 use Rattle.duty_core.specs.CaCycle.{cycle_days, cycle_reset, cycle_limit}
 use Rattle.duty_core.specs.RuleBooks.{cycle_of}
-
--- The answer is what is counted, and none where nothing is.
-abbrev pub IsCount : (ℕ → Type 0) → Option ℕ → Type 0
-IsCount Counted None = (n : ℕ) → Counted n → ⊥
-IsCount Counted (Some n) = Counted n
 
 -- driving in the day of a unit of driving, that unit counted
 pub record IsDayDriving (day : ℕ → ℕ) (p : List Activity) (i n : ℕ) : Type 0 where
@@ -82,95 +77,42 @@ pub record IsDutySinceDayOff (cycle : ℕ) (p : List Activity) (i n : ℕ) : Typ
 
 -- The rule counts n at place i. A rule that is not asked at places counts nothing there.
 abbrev pub IsCaCount : Params → ℕ → List Activity → List Mark → Rule → ℕ → ℕ → Type 0
-IsCaCount params first p marks UsWindow14 i n = ⊥
-IsCaCount params first p marks UsDrive11 i n = ⊥
-IsCaCount params first p marks UsBreak8 i n = ⊥
-IsCaCount params first p marks UsWeek i n = ⊥
-IsCaCount params first p marks UsPair i n = ⊥
 IsCaCount params first p marks CaDay13 i n = IsDayDriving (day_number params first) p i n
 IsCaCount params first p marks CaDay14 i n = IsDayDuty (day_number params first) p i n
 IsCaCount params first p marks CaShift13 i n = IsShiftDriving p (IsSplitAt params first marks) i n
 IsCaCount params first p marks CaShift14 i n = IsShiftDuty p (IsSplitAt params first marks) i n
 IsCaCount params first p marks CaElapsed16 i n = IsShiftTime p (IsSplitAt params first marks) i n
-IsCaCount params first p marks CaOff10 i n = ⊥
-IsCaCount params first p marks CaDefer i n = ⊥
-IsCaCount params first p marks CaPair i n = ⊥
 IsCaCount params first p marks Ca24in14 i n = IsSinceDayOff p i n
 IsCaCount params first p marks CaCycle i n = IsCycleDuty (cycle_of params) (day_number params first) p i n
 IsCaCount params first p marks Ca70without24 i n = IsDutySinceDayOff (cycle_of params) p i n
-IsCaCount params first p marks Au5h30 i n = ⊥
-IsCaCount params first p marks Au8h i n = ⊥
-IsCaCount params first p marks Au11h i n = ⊥
-IsCaCount params first p marks Au24h i n = ⊥
-IsCaCount params first p marks Au24hRest i n = ⊥
-IsCaCount params first p marks Au7d i n = ⊥
-IsCaCount params first p marks Au7dRest i n = ⊥
-IsCaCount params first p marks Au14d i n = ⊥
-IsCaCount params first p marks Au14dNights i n = ⊥
+IsCaCount params first p marks _ i n = ⊥
 
 -- the rule is one of those that are asked at places in Canada
 abbrev pub IsCaPlaceRule : Rule → Type 0
-IsCaPlaceRule UsWindow14 = ⊥
-IsCaPlaceRule UsDrive11 = ⊥
-IsCaPlaceRule UsBreak8 = ⊥
-IsCaPlaceRule UsWeek = ⊥
-IsCaPlaceRule UsPair = ⊥
 IsCaPlaceRule CaDay13 = Unit {0}
 IsCaPlaceRule CaDay14 = Unit {0}
 IsCaPlaceRule CaShift13 = Unit {0}
 IsCaPlaceRule CaShift14 = Unit {0}
 IsCaPlaceRule CaElapsed16 = Unit {0}
-IsCaPlaceRule CaOff10 = ⊥
-IsCaPlaceRule CaDefer = ⊥
-IsCaPlaceRule CaPair = ⊥
 IsCaPlaceRule Ca24in14 = Unit {0}
 IsCaPlaceRule CaCycle = Unit {0}
 IsCaPlaceRule Ca70without24 = Unit {0}
-IsCaPlaceRule Au5h30 = ⊥
-IsCaPlaceRule Au8h = ⊥
-IsCaPlaceRule Au11h = ⊥
-IsCaPlaceRule Au24h = ⊥
-IsCaPlaceRule Au24hRest = ⊥
-IsCaPlaceRule Au7d = ⊥
-IsCaPlaceRule Au7dRest = ⊥
-IsCaPlaceRule Au14d = ⊥
-IsCaPlaceRule Au14dNights = ⊥
+IsCaPlaceRule _ = ⊥
 
 -- the greatest count that the rule allows at a place
 abbrev pub ca_limit : Params → Rule → ℕ
-ca_limit params UsWindow14 = 0
-ca_limit params UsDrive11 = 0
-ca_limit params UsBreak8 = 0
-ca_limit params UsWeek = 0
-ca_limit params UsPair = 0
 ca_limit params CaDay13 = CA_DAY_DRIVING_LIMIT
 ca_limit params CaDay14 = CA_DAY_DUTY_LIMIT
 ca_limit params CaShift13 = CA_SHIFT_DRIVING_LIMIT
 ca_limit params CaShift14 = CA_SHIFT_DUTY_LIMIT
 ca_limit params CaElapsed16 = CA_ELAPSED_LIMIT
-ca_limit params CaOff10 = 0
-ca_limit params CaDefer = 0
-ca_limit params CaPair = 0
 ca_limit params Ca24in14 = CA_DAY_OFF_WITHIN
 ca_limit params CaCycle = cycle_limit (cycle_of params)
 ca_limit params Ca70without24 = CA_WITHOUT_DAY_OFF_LIMIT
-ca_limit params Au5h30 = 0
-ca_limit params Au8h = 0
-ca_limit params Au11h = 0
-ca_limit params Au24h = 0
-ca_limit params Au24hRest = 0
-ca_limit params Au7d = 0
-ca_limit params Au7dRest = 0
-ca_limit params Au14d = 0
-ca_limit params Au14dNights = 0
+ca_limit params _ = 0
 
 -- the rule is one of Canada
 abbrev pub IsCaRule : Rule → Type 0
-IsCaRule UsWindow14 = ⊥
-IsCaRule UsDrive11 = ⊥
-IsCaRule UsBreak8 = ⊥
-IsCaRule UsWeek = ⊥
-IsCaRule UsPair = ⊥
 IsCaRule CaDay13 = Unit {0}
 IsCaRule CaDay14 = Unit {0}
 IsCaRule CaShift13 = Unit {0}
@@ -182,12 +124,4 @@ IsCaRule CaPair = Unit {0}
 IsCaRule Ca24in14 = Unit {0}
 IsCaRule CaCycle = Unit {0}
 IsCaRule Ca70without24 = Unit {0}
-IsCaRule Au5h30 = ⊥
-IsCaRule Au8h = ⊥
-IsCaRule Au11h = ⊥
-IsCaRule Au24h = ⊥
-IsCaRule Au24hRest = ⊥
-IsCaRule Au7d = ⊥
-IsCaRule Au7dRest = ⊥
-IsCaRule Au14d = ⊥
-IsCaRule Au14dNights = ⊥
+IsCaRule _ = ⊥

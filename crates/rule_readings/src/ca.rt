@@ -2,15 +2,18 @@
 //! keeps it.
 ghost use Rattle.std.specs.Prelude.{◌≡◌, ℕ, ◌<◌, ◌≤◌, ◌↔◌, length, IsTrue, IfSome, IfOk};
 ghost use Rattle.duty_core.specs.declared.activity.Activity.TheVariants.{Drive};
+ghost use Rattle.duty_core.specs.declared.limits.TheConstants.{MINUTE_LIMIT};
 ghost use Rattle.duty_core.specs.History.{unit_at};
 ghost use Rattle.duty_core.specs.RuleBooks.{KeepsPadded};
 ghost use Rattle.rule_readings.specs.CaHistory.{IsByMinutes, IsPadded};
-ghost use Rattle.rule_readings.specs.CaCounts.{IsCount, IsCaCount, IsCaPlaceRule, IsCaRule, ca_limit};
+ghost use Rattle.rule_readings.specs.Count.{IsCount};
+ghost use Rattle.rule_readings.specs.CaCounts.{IsCaCount, IsCaPlaceRule, IsCaRule, ca_limit};
 
 use crate::ca_cycle::{cycle, cycle_duty, duty_since_day_off, limit_of, since_day_off};
 use crate::ca_day::{day_driving, day_duty};
 use crate::ca_pair::keeps_pair;
 use crate::ca_shift::{shift_driving, shift_duty, shift_time};
+use crate::count::is_within;
 use crate::deferral::{keeps_defer, keeps_off10};
 use crate::lost::LostMinutes;
 use crate::padded::Padded;
@@ -23,7 +26,7 @@ use std::alloc::Global;
 
 /// What the rule counts at place `i`, in minutes. None where it counts nothing there: without
 /// driving, and where the rule is none that is asked at places in Canada.
-pub(crate) fn count_at(
+pub(crate) fn ca_count(
     padded: &Padded,
     params: Params,
     first: Minute,
@@ -31,18 +34,18 @@ pub(crate) fn count_at(
     rule: Rule,
     i: u32,
 ) -> Option<u32>
-    requires minutes { IsByMinutes params first }
+    requires early { first ≤ MINUTE_LIMIT }
     requires inside { i < length padded.now }
     ensures { IsCount (IsCaCount params first padded.now marks.now rule i) result }
 {
     match padded.at(i) {
-        Activity::Drive => count_driving(padded, params, first, marks, rule, i),
+        Activity::Drive => count_at_driving(padded, params, first, marks, rule, i),
         Activity::Serve | Activity::Wait | Activity::Off | Activity::Berth => None,
     }
 }
 
 /// What the rule counts at place `i`, at which there is driving.
-fn count_driving(
+fn count_at_driving(
     padded: &Padded,
     params: Params,
     first: Minute,
@@ -50,7 +53,7 @@ fn count_driving(
     rule: Rule,
     i: u32,
 ) -> Option<u32>
-    requires minutes { IsByMinutes params first }
+    requires early { first ≤ MINUTE_LIMIT }
     requires inside { i < length padded.now }
     requires drive { unit_at padded.now i ≡ Drive }
     ensures { IsCount (IsCaCount params first padded.now marks.now rule i) result }
@@ -69,7 +72,7 @@ fn count_driving(
 }
 
 /// The greatest count that the rule allows at a place, in minutes.
-pub(crate) fn limit_at(params: Params, rule: Rule) -> u32
+pub(crate) fn ca_limit_of(params: Params, rule: Rule) -> u32
     ensures { result ≡ ca_limit params rule }
 {
     match rule {
@@ -85,16 +88,6 @@ pub(crate) fn limit_at(params: Params, rule: Rule) -> u32
     }
 }
 
-/// Whether a count, if there is one, is at most the limit.
-fn is_within(count: Option<u32>, limit: u32) -> bool
-    ensures { IsTrue result ↔ IfSome count (λ n. n ≤ limit) }
-{
-    match count {
-        Some(n) => n <= limit,
-        None => true,
-    }
-}
-
 /// Whether the rule's count is at most its limit at each place.
 fn keeps_at_places(
     padded: &Padded,
@@ -103,14 +96,14 @@ fn keeps_at_places(
     marks: &Marks,
     rule: Rule,
 ) -> bool
-    requires minutes { IsByMinutes params first }
+    requires early { first ≤ MINUTE_LIMIT }
     requires padded { IsPadded params padded.now }
     requires places { IsCaPlaceRule rule }
     ensures { IsTrue result ↔ KeepsPadded params first padded.now marks.now rule }
 {
-    let limit = limit_at(params, rule);
+    let limit = ca_limit_of(params, rule);
     for i in 0..padded.len() {
-        if !is_within(count_at(padded, params, first, marks, rule, i), limit) {
+        if !is_within(ca_count(padded, params, first, marks, rule, i), limit) {
             return false;
         }
     }

@@ -1,67 +1,20 @@
-//! The rests that Canadian fortnights and cycles begin from, after SOR/2005-313, sections 24 to 28.
-ghost use Rattle.std.specs.Prelude.{◌≡◌, ℕ, ◌+◌, ◌<◌, ◌≤◌, ◌↔◌, IsTrue, MatchOption, length};
-ghost use Rattle.duty_core.specs.Counting.{IsLastEnd, IsDaysBase};
+//! What is counted in fortnights and cycles in Canada, after SOR/2005-313, sections 24 to 28.
+ghost use Rattle.std.specs.Prelude.{◌≡◌, ◌<◌, ◌≤◌, length};
 ghost use Rattle.duty_core.specs.Day.{day_number};
-ghost use Rattle.duty_core.specs.RestRun.{IsLongRun};
+ghost use Rattle.duty_core.specs.declared.limits.TheConstants.{MINUTE_LIMIT};
 ghost use Rattle.duty_core.specs.CaCycle.{cycle_days, cycle_reset, cycle_limit};
 ghost use Rattle.duty_core.specs.RuleBooks.{cycle_of};
-ghost use Rattle.rule_readings.specs.CaHistory.{IsByMinutes};
-ghost use Rattle.rule_readings.specs.CaDays.{EndsBy};
-ghost use Rattle.rule_readings.specs.CaCounts.{IsCount, IsSinceDayOff, IsCycleDuty, IsDutySinceDayOff};
+ghost use Rattle.rule_readings.specs.Count.{IsCount};
+ghost use Rattle.rule_readings.specs.CaCounts.{IsSinceDayOff, IsCycleDuty, IsDutySinceDayOff};
 ghost use Rattle.duty_core.specs.declared.activity.Activity.TheVariants.{Drive};
 ghost use Rattle.duty_core.specs.History.{unit_at};
 
-use crate::ca_day::first_of_days;
-use crate::padded::{Padded, RestRun};
+use crate::days::{days_base, last_end};
+use crate::padded::Padded;
 use duty_core::{
     CA_CYCLE_1, CA_CYCLE_1_DAYS, CA_CYCLE_1_LIMIT, CA_CYCLE_1_RESET, CA_CYCLE_2, CA_CYCLE_2_DAYS,
     CA_CYCLE_2_LIMIT, CA_CYCLE_2_RESET, CA_DAY_OFF, Minute, Params,
 };
-
-/// Where the last rest run of at least `least` minutes ended that ended at place `i` or before.
-/// None where no such run did.
-pub(crate) fn last_end(padded: &Padded, least: u32, i: u32) -> Option<u32>
-    ensures { MatchOption result ((a b : ℕ) → IsLongRun least padded.now a b → b ≤ i → ⊥) (λ to. IsLastEnd least padded.now i to) }
-{
-    let mut last = None;
-    for run in padded.rest_runs() {
-        if ends_by(run, least, i) {
-            last = Some(run.to);
-        }
-    }
-    last
-}
-
-/// Whether the run has at least `least` minutes and ended at place `i` or before.
-fn ends_by(run: &RestRun, least: u32, i: u32) -> bool
-    ensures { IsTrue result ↔ EndsBy least i run.now }
-{
-    run.to <= i && least <= run.to && run.from <= run.to - least
-}
-
-/// From where duty is counted at place `i`: the first place of the last so many days, or the place
-/// where the last restart ended, if that is later.
-pub(crate) fn days_base(
-    padded: &Padded,
-    params: Params,
-    first: Minute,
-    days: u32,
-    restart: u32,
-    i: u32,
-) -> u32
-    requires minutes { IsByMinutes params first }
-    requires inside { i < length padded.now }
-    requires some { 0 < days }
-    requires small { days ≤ 1000 }
-    ensures { IsDaysBase (day_number params first) days restart padded.now i result }
-{
-    let _places = padded.len();
-    let begin = first_of_days(params, first, days, i);
-    match last_end(padded, restart, i) {
-        Some(end) => begin.max(end),
-        None => begin,
-    }
-}
 
 /// The number of the cycle, and 0 in other books.
 pub(crate) fn cycle(params: Params) -> u32
@@ -77,7 +30,6 @@ pub(crate) fn cycle(params: Params) -> u32
 pub(crate) fn days_of(cycle: u32) -> u32
     ensures same { result ≡ cycle_days cycle }
     ensures some { 0 < result }
-    ensures small { result ≤ 1000 }
 {
     if cycle == CA_CYCLE_1 {
         CA_CYCLE_1_DAYS
@@ -125,7 +77,7 @@ pub(crate) fn since_day_off(padded: &Padded, i: u32) -> Option<u32>
 /// The duty in the days of the cycle up to place `i`, at which there is driving, and with it, since
 /// the last reset.
 pub(crate) fn cycle_duty(padded: &Padded, params: Params, first: Minute, i: u32) -> u32
-    requires minutes { IsByMinutes params first }
+    requires early { first ≤ MINUTE_LIMIT }
     requires inside { i < length padded.now }
     requires drive { unit_at padded.now i ≡ Drive }
     ensures { IsCycleDuty (cycle_of params) (day_number params first) padded.now i result }

@@ -1,13 +1,14 @@
 //! Days by the minute: their numbers and the places at which they begin.
-ghost use Rattle.std.specs.Prelude.{◌≡◌, ◌+◌, ◌<◌, ◌≤◌, length};
+ghost use Rattle.std.specs.Prelude.{◌≡◌, ◌<◌, ◌≤◌, length};
 ghost use Rattle.duty_core.specs.declared.activity.Activity.TheVariants.{Drive};
 ghost use Rattle.duty_core.specs.History.{unit_at};
-ghost use Rattle.duty_core.specs.Day.{day_start, day_number, IsFirstOfDays};
-ghost use Rattle.duty_core.specs.declared.limits.TheConstants.{DAY_MINUTES, MINUTE_LIMIT};
+ghost use Rattle.duty_core.specs.Day.{day_start, day_number};
+ghost use Rattle.duty_core.specs.declared.limits.TheConstants.{MINUTE_LIMIT};
 ghost use Rattle.rule_readings.specs.CaHistory.{IsByMinutes};
 ghost use Rattle.rule_readings.specs.CaDays.{BeginsDay};
 ghost use Rattle.rule_readings.specs.CaCounts.{IsDayDriving, IsDayDuty};
 
+use crate::days::first_of_days;
 use crate::padded::Padded;
 use duty_core::{DAY_MINUTES, Minute, Params};
 
@@ -44,21 +45,9 @@ pub(crate) fn day_begin(params: Params, first: Minute, number: u32) -> u32
     (number * DAY_MINUTES).saturating_sub(first + (DAY_MINUTES - start_of(params)))
 }
 
-/// The first place of the last so many days, the day of place `i` counted.
-pub(crate) fn first_of_days(params: Params, first: Minute, days: u32, i: u32) -> u32
-    requires minutes { IsByMinutes params first }
-    requires inside { i ≤ MINUTE_LIMIT }
-    requires some { 0 < days }
-    requires small { days ≤ 1000 }
-    ensures { IsFirstOfDays (day_number params first) days i result }
-{
-    let last = day_of(params, first, i);
-    day_begin(params, first, (last + 1).saturating_sub(days))
-}
-
 /// The driving in the day of place `i`, at which there is driving, up to that minute and with it.
 pub(crate) fn day_driving(padded: &Padded, params: Params, first: Minute, i: u32) -> u32
-    requires minutes { IsByMinutes params first }
+    requires early { first ≤ MINUTE_LIMIT }
     requires inside { i < length padded.now }
     requires drive { unit_at padded.now i ≡ Drive }
     ensures { IsDayDriving (day_number params first) padded.now i result }
@@ -69,7 +58,7 @@ pub(crate) fn day_driving(padded: &Padded, params: Params, first: Minute, i: u32
 
 /// The duty in the day of place `i`, at which there is driving, up to that minute and with it.
 pub(crate) fn day_duty(padded: &Padded, params: Params, first: Minute, i: u32) -> u32
-    requires minutes { IsByMinutes params first }
+    requires early { first ≤ MINUTE_LIMIT }
     requires inside { i < length padded.now }
     requires drive { unit_at padded.now i ≡ Drive }
     ensures { IsDayDuty (day_number params first) padded.now i result }

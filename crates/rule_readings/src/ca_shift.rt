@@ -4,7 +4,8 @@ ghost use Rattle.duty_core.specs.declared.activity.Activity.TheVariants.{Drive};
 ghost use Rattle.duty_core.specs.declared.limits.TheConstants.{MINUTE_LIMIT};
 ghost use Rattle.duty_core.specs.History.{unit_at};
 ghost use Rattle.duty_core.specs.Marks.{IsSplitAt};
-ghost use Rattle.rule_readings.specs.CaCounts.{IsCount, IsShiftDriving, IsShiftDuty, IsShiftTime};
+ghost use Rattle.rule_readings.specs.Count.{IsCount};
+ghost use Rattle.rule_readings.specs.CaCounts.{IsShiftDriving, IsShiftDuty, IsShiftTime};
 
 use crate::base::base_at;
 use crate::padded::Padded;

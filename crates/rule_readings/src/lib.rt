@@ -13,6 +13,9 @@ mod ca_cycle;
 mod ca_day;
 mod ca_pair;
 mod ca_shift;
+#[cfg(test)]
+mod ca_tests;
+mod count;
 mod days;
 mod declared;
 mod deferral;
@@ -20,6 +23,8 @@ mod lost;
 mod padded;
 mod pairs;
 mod rules;
+#[cfg(test)]
+mod tests;
 mod us;
 
 pub use broken_rules::broken;

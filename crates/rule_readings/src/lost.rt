@@ -69,9 +69,13 @@ fn is_lost(padded: &Padded, i: u32, before: u32) -> bool
     requires before { before ≡ rest_before padded.now i }
     ensures { result ≡ is_lost padded.now i }
 {
-    let _places = padded.len();
-    let ahead = rest_ahead(padded, i);
-    is_duty(padded.at(i)) || before + ahead < CA_BLOCK_LEAST
+    if is_duty(padded.at(i)) {
+        return true;
+    }
+    if before >= CA_BLOCK_LEAST {
+        return false;
+    }
+    before + rest_ahead(padded, i) < CA_BLOCK_LEAST
 }
 
 /// The minutes of rest from place `i` on, as far as half an hour.

@@ -10,6 +10,7 @@ ghost use Rattle.rule_readings.specs.Count.{IsCount};
 ghost use Rattle.rule_readings.specs.UsCounts.{IsWindow, IsDriven, IsUnbroken, IsWeekDuty, IsUsCount, IsAmerican, IsUsMark, us_limit};
 
 use crate::base::base_at;
+use crate::count::is_within;
 use crate::days::{days_base, is_driving};
 use crate::padded::Padded;
 use crate::pairs::{PairBerth, PairTerms, are_paired, split_run};
@@ -157,16 +158,6 @@ pub(crate) fn us_limit_of(params: Params, rule: Rule) -> u32
         Rule::UsWeek if days_of_week(params) == US_SHORT_WEEK => US_SHORT_WEEK_LIMIT,
         Rule::UsWeek => US_LONG_WEEK_LIMIT,
         _ => 0,
-    }
-}
-
-/// Whether a count, if there is one, is at most the limit.
-fn is_within(count: Option<u32>, limit: u32) -> bool
-    ensures { IsTrue result ↔ IfSome count (λ n. n ≤ limit) }
-{
-    match count {
-        Some(n) => n <= limit,
-        None => true,
     }
 }
 

@@ -1,7 +1,8 @@
 use Rattle.std.proofs.Common.{◌≤◌, refl, sym, subst, arith, inl, inr}
 use Rattle.std.proofs.lemmas.Bool.{cases_lt, cases_eq, iff_false}
 use Rattle.rule_readings.specs.UsCounts.{IsUsCount}
-use Rattle.rule_readings.proofs.UsPlaces.{none_past, one_count, count_within, within_count}
+use Rattle.rule_readings.proofs.Within.{count_within, within_count}
+use Rattle.rule_readings.proofs.UsPlaces.{none_past, one_count}
 use Rattle.rule_readings.proofs.us.counts_within.Goals as goal
 
 pub loop-i-preserved : goal.loop-i-preserved
