@@ -1,4 +1,4 @@
-use Rattle.std.proofs.Common.{◌≡◌, length, sym, subst}
+use Rattle.std.proofs.Common.{◌≡◌, ℕ, length, sym, subst}
 use Rattle.duty_core.specs.declared.params.Params.{Params}
 use Rattle.duty_core.specs.Params.{BeginsUnit}
 use Rattle.rule_core.specs.Machine.{IsMachine}
