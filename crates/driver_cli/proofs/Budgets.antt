@@ -17,7 +17,7 @@ own = numerals_by_value (AllDigits 10) tells_digits
 pub budget_read : {E : Type 0} (bs : List ℕ) (n : ℕ) (r : Result ℕ E) → ParsesUnsigned 32 10 bs r → r ≡ Ok n → 48 < get_or bs 0 0 → bs ≡ decimal n
 budget_read bs n r h e head =
     let p = rw e at (parse_plain own 32 bs r h (λ plus. absurd (omega arith))) in
-    let lt = p.0.2.1 in
+    let lt : digits_value 10 bs < 2 ^ 32 = p.0.2 in
     let d = decimal-digits_value own bs p.0.0 p.0.1 (λ z. absurd (omega arith)) (omega arith) in
     sym d ∙ ap decimal (sym p.1)
 

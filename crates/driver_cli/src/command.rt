@@ -32,15 +32,22 @@ pub struct Request<'a> {
 fn budget_of(text: &str) -> Option<u32>
     ensures { MatchOption result ((n : ℕ) → IsBudget n → text.now ≡ decimal n → ⊥) (λ n. IsBudget n × (text.now ≡ decimal n)) }
 {
-    let first = *text.as_bytes().first()?;
-    if !(b'1'..=b'9').contains(&first) {
+    let bytes = text.as_bytes();
+    if bytes.is_empty() {
         return None;
     }
-    let budget = text.parse::<u32>().ok()?;
-    if budget > MOST_BUDGET {
+    let first = bytes[0];
+    if first < b'1' || first > b'9' {
         return None;
     }
-    Some(budget)
+    match text.parse::<u32>() {
+        Ok(budget) => if budget <= MOST_BUDGET {
+            Some(budget)
+        } else {
+            None
+        },
+        Err(_) => None,
+    }
 }
 
 /// What three words ask for.

@@ -11,6 +11,7 @@ use Rattle.tour_model.specs.declared.tour.Tour.{Tour}
 use Rattle.tour_model.specs.Schedule.{log_start, IsSolutionWith, IsShortest}
 use Rattle.tour_model.specs.Layer.{layer_at}
 use Rattle.tour_model.specs.LengthLaws.{begins_sooner}
+use Rattle.label_state.specs.Path.{HaveParents, path_of}
 use Rattle.label_search.specs.Sound.{IsSound}
 use Rattle.label_search.specs.Searched.{IsAnswer, IsWithin, layers_of}
 use Rattle.cert_text.specs.Planning.{minute_of, problem_of, state_at, IsLogState}
@@ -65,3 +66,51 @@ answer_of g c =
 
 sound_of : (g : _) (c : In_ok-layers g) → IsSound (problem_of c.args.tour.now (g.B.RuleBook.advances_of c.args.book.now) (g.B.RuleBook.covering c.args.book.now) (g.B.RuleBook.idles_of c.args.book.now)) c.args.roots.now (layers_of c.in_ok-layers.field-0)
 sound_of g c = rw c.items.ensures at c.in_ok-layers.ensures.sound
+
+pub rebuild-requires-clause-parents : goal.rebuild-requires-clause-parents
+rebuild-requires-clause-parents g c =
+    let problem = problem_of c.args.tour.now (g.B.RuleBook.advances_of c.args.book.now) (g.B.RuleBook.covering c.args.book.now) (g.B.RuleBook.idles_of c.args.book.now) in
+    let sound = rw c.in-Found.is at (sound_of g (goal.at.rebuild-requires-clause-parents g c).In_ok-layers) in
+    subst (λ rs. HaveParents (length rs) c.in-Found.layers) (sym c.items-in-Found.ensures) (sound_parents problem c.args.roots.now c.in-Found.layers sound)
+
+pub rebuild-requires-clause-there : goal.rebuild-requires-clause-there
+rebuild-requires-clause-there g c =
+    let found = rw c.in-Found.is at (answer_of g (goal.at.rebuild-requires-clause-there g c).In_ok-layers) in
+    slice_get_within (layer_at c.in-Found.layers c.in-Found.place.layer) c.in-Found.place.index found.best found.there
+
+pub returns-in-Found : goal.returns-in-Found
+returns-in-Found g c =
+    let tour = c.args.tour.now in
+    let log = c.args.log.now in
+    let found = rw c.in-Found.is at (answer_of g (goal.at.returns-in-Found g c).In_ok-layers) in
+    let steps = c.in_ok-rebuild-in-Found.ensures.steps in
+    let marks = rw c.items-in-Found.ensures at c.in_ok-rebuild-in-Found.ensures.marks in
+    record {
+      planned = (
+        subst (λ xs. IsSolutionWith tour log xs c.in_ok-rebuild-in-Found.field-0.marks) (sym steps) (subst (IsSolutionWith tour log (path_of c.in-Found.layers c.in-Found.place.layer c.in-Found.place.index)) (sym marks) found.solves),
+        subst (IsShortest tour log) (sym steps) found.shortest,
+      );
+    }
+
+pub returns-in-Never : goal.returns-in-Never
+returns-in-Never g c =
+    let never = rw c.in-Never.is at (answer_of g (goal.at.returns-in-Never g c).In_ok-layers) in
+    record { planned = never.infeasible }
+
+pub returns : goal.returns
+returns g c =
+    let some = (goal.at.returns g c).In_ok-layers in
+    let spent = rw c.in-Spent.is at (answer_of g some) in
+    let sound = rw c.in-Spent.is at (sound_of g some) in
+    let full = rw c.in-Spent.is at c.in_ok-layers.ensures.within in
+    record {
+      planned = record {
+        roots = c.args.roots.now;
+        reached = λ r o. (r.marks, c.requires.roots.reached r o);
+        layers = c.in-Spent.layers;
+        sound = sound;
+        worked = spent.worked;
+        full = full;
+        many = spent.many;
+      };
+    }
