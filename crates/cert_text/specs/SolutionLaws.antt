@@ -56,7 +56,7 @@ log_state tour log is_state root nexts advances covers tries m t l s r =
 
 -- a solution with its marks is one
 pub solution_by : (tour : Tour) (log xs : List Activity) (marks : List Mark) → IsSolutionWith tour log xs marks → IsSolution tour log xs
-solution_by tour log xs marks s = record { serves = s.serves; lawful = record { marks = marks; with = s.lawful } }
+solution_by tour log xs marks s = record { serves = s.serves; lawful = record { marks = marks; keeps = s.lawful } }
 
 -- a whole way through the problem from a state that the log reaches is a solution, with the marks of both
 pub way_solves_with : {S : Type 0} (tour : Tour) (log : List Activity) (is_state : S → ℕ → Type 0) (root : S) (nexts : S → ℕ → Activity → List (Next S)) (advances : S → ℕ → Activity → ℕ → List (Next S)) (covers : S → S → ℕ → Bool) (tries : S → Idles) →
@@ -99,7 +99,7 @@ pub solution_way : {S : Type 0} (tour : Tour) (log : List Activity) (is_state : 
 solution_way tour log is_state root nexts advances covers tries m t l xs s =
     let unit = unit_minutes tour.params in
     let units = units_of (step_units tour) xs in
-    let r = (m.exact (history_of tour log xs) s.lawful.marks (history_timed tour t log xs l s.serves)).1 s.lawful.with in
+    let r = (m.exact (history_of tour log xs) s.lawful.marks (history_timed tour t log xs l s.serves)).1 s.lawful.keeps in
     let p = reaches_parted unit nexts log units root (log_start tour log) s.lawful.marks r.0 r.1 in
     let start : IsLogState tour log root nexts p.between = (p.earlier, p.front) in
     let rest = subst (λ at. Reaches unit nexts p.between at units p.later r.0) (log_ends tour t log l) p.rest in

@@ -123,9 +123,10 @@ pub record AuditDone (call : Call) (text : Bytes) : Type 0 where
 
 -- Done, of `plan`: the log is lawful, behind it the tour has this shortest schedule, and the text reports it.
 pub record PlanDone (call : Call) (text : Bytes) : Type 0 where
+  pub budget : ℕ
   pub tour : Tour
   pub log : List Activity
-  pub read : IsRead call Plan tour log
+  pub read : IsRead call (Plan budget) tour log
   pub lawful : IsLawful tour.params (log_start tour log) log
   pub schedule : List Activity
   pub shortest : IsShortest tour log schedule
@@ -133,21 +134,23 @@ pub record PlanDone (call : Call) (text : Bytes) : Type 0 where
 
 -- Infeasible, of `plan`: the log is lawful, and behind it no schedule serves the tour lawfully.
 pub record PlanInfeasible (call : Call) (text : Bytes) : Type 0 where
+  pub budget : ℕ
   pub tour : Tour
   pub log : List Activity
-  pub read : IsRead call Plan tour log
+  pub read : IsRead call (Plan budget) tour log
   pub lawful : IsLawful tour.params (log_start tour log) log
   pub infeasible : IsInfeasible tour log
   pub told : text ≡ infeasible_text
 
--- Spent, of `plan`: the log is lawful, and behind it the tour has more labels than the search may keep.
+-- Spent, of `plan`: the log is lawful, and behind it the search kept as many labels as the budget allows.
 pub record PlanSpent (call : Call) (text : Bytes) : Type 0 where
+  pub budget : ℕ
   pub tour : Tour
   pub log : List Activity
-  pub read : IsRead call Plan tour log
+  pub read : IsRead call (Plan budget) tour log
   pub lawful : IsLawful tour.params (log_start tour log) log
-  pub spent : IsSpent tour log
-  pub told : text ≡ spent_text
+  pub spent : IsSpent tour log budget
+  pub told : text ≡ spent_text budget
 
 -- The statuses that send a text, each with its causes and that text.
 abbrev pub Answers : Call → Status → Bytes → Type 0
