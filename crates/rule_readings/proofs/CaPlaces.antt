@@ -1,33 +1,29 @@
 -- A Canadian rule is kept at every place exactly where each of its counts is at most its limit.
-use Rattle.std.proofs.Common.{◌≡◌, ℕ, ◌+◌, ◌-◌, ◌<◌, ◌≤◌, ◌⊎◌, ◌↔◌, Bool, true, false, List, length, Option, Some, None, refl, sym, ◌∙◌, ap, subst, arith, inl, inr, IfSome}
-use Rattle.std.proofs.lemmas.Bool.{cases_lt, cases_eq}
+use Rattle.std.proofs.Common.{◌≡◌, ℕ, ◌+◌, ◌-◌, ◌≤◌, List, length, Option, Some, None, refl, sym, ◌∙◌, ap, subst, arith, IfSome}
 use Rattle.duty_core.specs.declared.activity.Activity.{Activity}
 use Rattle.duty_core.specs.declared.activity.Activity.TheVariants.{Drive, Off}
 use Rattle.duty_core.specs.declared.mark.Mark.{Mark}
 use Rattle.duty_core.specs.declared.params.Params.{Params}
 use Rattle.duty_core.specs.declared.params.Params.TheVariants.{UsProperty, Canada, Hvnl}
 use Rattle.duty_core.specs.declared.rule.Rule.{Rule}
-use Rattle.duty_core.specs.declared.rule.Rule.TheVariants.{CaDay13, CaDay14, CaShift13, CaShift14, CaElapsed16, CaOff10, CaDefer, CaPair, Ca24in14, CaCycle, Ca70without24}
+use Rattle.duty_core.specs.declared.rule.Rule.TheVariants.{CaDay13, CaDay14, CaShift13, CaShift14, CaElapsed16, Ca24in14, CaCycle, Ca70without24}
 use Rattle.duty_core.specs.declared.limits.TheConstants.{CA_FULL_REST, CA_DAY_OFF, CA_DAY_OFF_WITHIN}
-use Rattle.duty_core.specs.Activity.{rests, drives, works}
-use Rattle.duty_core.specs.History.{unit_at, pad_days, pad_units, padded}
-use Rattle.duty_core.specs.RestRun.{IsRun, IsLongRun}
+use Rattle.duty_core.specs.Activity.{rests}
+use Rattle.duty_core.specs.History.{unit_at, pad_days, pad_units}
 use Rattle.duty_core.specs.Stretch.{HoldsRest}
 use Rattle.duty_core.specs.Counting.{driving, duty, IsLastEnd}
-use Rattle.duty_core.specs.Day.{day_number, IsFirstOfDays}
+use Rattle.duty_core.specs.Day.{day_number}
 use Rattle.duty_core.specs.Marks.{IsSplitAt}
-use Rattle.duty_core.specs.Base.{IsBase, elapsed}
+use Rattle.duty_core.specs.Base.{elapsed}
 use Rattle.duty_core.specs.CaCycle.{cycle_days, cycle_reset, MeetsCa24in14}
 use Rattle.duty_core.specs.RuleBooks.{KeepsPadded, cycle_of}
 use Rattle.duty_core.specs.HistoryLaws.{unit_at-past}
-use Rattle.duty_core.specs.LostLaws.{before_rest, before_stops, before_least, before_there}
 use Rattle.duty_core.specs.UniqueLaws.{base_unique, omitted_unique, last_end_unique, days_base_unique, first_of_days_unique}
 use Rattle.duty_core.specs.ExistLaws.{has_last_end}
-use Rattle.duty_core.specs.LostMinutes.{rest_before}
 use Rattle.rule_readings.proofs.HeldRuns.{in_run}
 use Rattle.rule_readings.specs.CaHistory.{IsPadded}
 use Rattle.rule_readings.specs.Count.{IsCount}
-use Rattle.rule_readings.specs.CaCounts.{IsDayDriving, IsDayDuty, IsShiftDriving, IsShiftDuty, IsShiftTime, IsSinceDayOff, IsCycleDuty, IsDutySinceDayOff, IsCaCount, IsCaPlaceRule, ca_limit}
+use Rattle.rule_readings.specs.CaCounts.{IsSinceDayOff, IsCaCount, IsCaPlaceRule, ca_limit}
 
 -- # A count is made at a unit of driving
 

@@ -1,16 +1,15 @@
 -- The number of a day that is told by its distance from day 0.
-use Rattle.std.proofs.Common.{◌≡◌, ℕ, ◌+◌, ◌-◌, ◌<◌, ◌≤◌, ◌↔◌, ◌*◌, ◌/◌, Bool, true, false, ◌&&◌, cond, List, length, Option, Some, None, refl, sym, ◌∙◌, ap, subst, arith, inl, inr, zero, suc, eq-eqb, MatchOption, IsTrue}
-use Rattle.std.specs.Prelude.{ℤ, pos, negsuc, ◌+ℤ◌, nat_abs, nat_eq, SomeIff}
+use Rattle.std.proofs.Common.{◌≡◌, ℕ, ◌+◌, ◌-◌, ◌<◌, ◌≤◌, ◌↔◌, ◌*◌, Bool, true, false, ◌&&◌, cond, List, length, Option, Some, None, refl, sym, ◌∙◌, ap, subst, arith, zero, suc, eq-eqb, MatchOption, IsTrue}
+use Rattle.std.specs.Prelude.{ℤ, pos, negsuc, nat_abs, nat_eq, SomeIff}
 use Rattle.std.proofs.lemmas.Int.{ints, by_lt_z}
 use lib.Signed.{lt_z}
-use Rattle.std.proofs.lemmas.Bool.{cases_lt, cases_eq}
 use Rattle.std.proofs.lemmas.Bool.Decides.{nat_tests}
 use Rattle.duty_core.specs.declared.activity.Activity.{Activity}
 use Rattle.duty_core.specs.declared.params.Params.{Params}
-use Rattle.duty_core.specs.declared.limits.TheConstants.{DAY_MINUTES, MINUTE_LIMIT}
+use Rattle.duty_core.specs.declared.limits.TheConstants.{MINUTE_LIMIT}
 use Rattle.duty_core.specs.Params.{unit_minutes}
 use Rattle.duty_core.specs.History.{pad_days}
-use Rattle.duty_core.specs.Day.{IsNumberOfDay, day_number, day_start}
+use Rattle.duty_core.specs.Day.{IsNumberOfDay, day_number}
 use Rattle.duty_core.specs.Counting.{places}
 use Rattle.duty_core.specs.LostMinutes.{is_lost, lost}
 use Rattle.rule_readings.specs.CaHistory.{IsByMinutes}

@@ -1,10 +1,8 @@
 -- The rests that have a minute in a day.
-use Rattle.std.proofs.Common.{◌≡◌, ℕ, ◌+◌, ◌-◌, ◌<◌, ◌≤◌, true, false, List, length, get_or, max, sym, ◌∙◌, ap, subst, arith, inl, inr}
+use Rattle.std.proofs.Common.{◌≡◌, ℕ, ◌+◌, ◌-◌, ◌<◌, ◌≤◌, true, false, List, length, get_or, max, sym, ◌∙◌, subst, arith, inl, inr}
 use Rattle.std.specs.Prelude.{Contains}
 use Rattle.std.proofs.lemmas.Bool.{cases_lt}
 use Rattle.duty_core.specs.declared.activity.Activity.{Activity}
-use Rattle.duty_core.specs.Activity.{rests}
-use Rattle.duty_core.specs.History.{unit_at}
 use Rattle.duty_core.specs.RestRun.{IsRun}
 use Rattle.duty_core.specs.Deferral.{HasRestIn}
 use Rattle.rule_readings.specs.declared.padded.RestRun.{RestRun}

@@ -1,6 +1,6 @@
 -- Split rests and pairs in Canada.
-use Rattle.std.proofs.Common.{◌≡◌, ℕ, ◌+◌, ◌-◌, ◌*◌, ◌<◌, ◌≤◌, true, false, List, sym, ◌∙◌, ap, subst, arith, inl, inr}
-use Rattle.std.specs.Prelude.{ℤ, pos, ◌-ℤ◌, Contains}
+use Rattle.std.proofs.Common.{◌≡◌, ℕ, true, false, List, sym, ◌∙◌, subst, arith, inl, inr}
+use Rattle.std.specs.Prelude.{Contains}
 use Rattle.std.proofs.lemmas.Bool.{cases_lt}
 use Rattle.std.proofs.lemmas.Int.{ints}
 use Rattle.duty_core.specs.declared.activity.Activity.{Activity}
@@ -8,13 +8,11 @@ use Rattle.duty_core.specs.declared.mark.Mark.{Mark}
 use Rattle.duty_core.specs.declared.mark.Mark.TheVariants.{SplitRest}
 use Rattle.duty_core.specs.declared.params.Params.{Params}
 use Rattle.duty_core.specs.declared.params.Params.TheVariants.{UsProperty, Canada, Hvnl}
-use Rattle.duty_core.specs.declared.limits.TheConstants.{CA_FULL_REST, CA_PAIR_LEAST, CA_SPLIT_LEAST}
-use Rattle.duty_core.specs.Activity.{rests}
-use Rattle.duty_core.specs.History.{unit_at}
+use Rattle.duty_core.specs.declared.limits.TheConstants.{CA_FULL_REST, CA_SPLIT_LEAST}
 use Rattle.duty_core.specs.RestRun.{IsRun}
 use Rattle.duty_core.specs.Stretch.{IsBerth}
 use Rattle.duty_core.specs.Day.{minute_at}
-use Rattle.duty_core.specs.Marks.{IsMinuteOf, IsSplitAt}
+use Rattle.duty_core.specs.Marks.{IsSplitAt}
 use Rattle.duty_core.specs.DeclaredRest.{ArePairedAt}
 use Rattle.duty_core.specs.CaShift.{IsSplitWay, IsCaPair, IsCaSplit, MeetsCaPair}
 use Rattle.rule_readings.specs.declared.ca_pair.TheConstants.{CA_PAIR}

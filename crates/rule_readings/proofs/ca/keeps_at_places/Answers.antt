@@ -1,6 +1,6 @@
-use Rattle.std.proofs.Common.{◌≡◌, ℕ, ◌<◌, ◌≤◌, false, true, refl, sym, ap, subst, arith, inl, inr}
+use Rattle.std.proofs.Common.{◌≡◌, ◌≤◌, false, true, refl, sym, subst, arith, inl, inr}
 use Rattle.std.proofs.lemmas.Bool.{cases_lt, cases_eq}
-use Rattle.rule_readings.specs.CaCounts.{IsCaCount, ca_limit}
+use Rattle.rule_readings.specs.CaCounts.{IsCaCount}
 use Rattle.rule_readings.proofs.CaPlaces.{none_past, one_count, count_within, within_count, within_keeps, keeps_within}
 use Rattle.rule_readings.proofs.ca.keeps_at_places.Goals as goal
 

@@ -1,5 +1,4 @@
-use Rattle.std.proofs.Common.{◌≡◌, ◌<◌, true, false, length, arith}
-use Rattle.duty_core.specs.Day.{day_number}
+use Rattle.std.proofs.Common.{◌≡◌, true, false, length, arith}
 use Rattle.rule_readings.proofs.DayNumbers.{lost_late, day_small}
 use Rattle.rule_readings.proofs.deferral.is_deferral.Goals as goal
 

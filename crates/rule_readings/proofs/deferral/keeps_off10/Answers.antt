@@ -1,8 +1,6 @@
-use Rattle.std.proofs.Common.{◌≡◌, ℕ, ◌≤◌, ap, sym, ◌∙◌, true, false, refl, inl, inr, arith}
+use Rattle.std.proofs.Common.{ap, ◌∙◌, refl, inl, inr, arith}
 use Rattle.std.proofs.lemmas.Bool.{cases_lt}
 use Rattle.duty_core.specs.Day.{day_number}
-use Rattle.duty_core.specs.declared.limits.TheConstants.{CA_LOST_LIMIT}
-use Rattle.duty_core.specs.LostMinutes.{lost}
 use Rattle.rule_readings.proofs.DayNumbers.{lost_early, lost_late}
 use Rattle.rule_readings.proofs.deferral.keeps_off10.Goals as goal
 

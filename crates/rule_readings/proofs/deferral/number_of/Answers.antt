@@ -1,4 +1,4 @@
-use Rattle.std.proofs.Common.{◌∙◌, sym, ap, subst, true, false, ◌≡◌}
+use Rattle.std.proofs.Common.{◌∙◌, sym, ap}
 use Rattle.std.specs.Prelude.{pos, nat_abs}
 use Rattle.std.specs.Int.{w32}
 use lib.Signed.{lt_z}

@@ -1,4 +1,4 @@
-use Rattle.std.proofs.Common.{◌+◌, sym, ◌∙◌, ap, arith}
+use Rattle.std.proofs.Common.{sym, ◌∙◌, ap, arith}
 use Rattle.duty_core.specs.Activity.{rests}
 use Rattle.rule_readings.proofs.LostFacts.{from_here, from_all}
 use Rattle.rule_readings.proofs.lost.rest_ahead.Goals as goal

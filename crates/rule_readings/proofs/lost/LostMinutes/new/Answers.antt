@@ -1,4 +1,4 @@
-use Rattle.std.proofs.Common.{◌≡◌, ℕ, ◌+◌, cond, Bool, ◌++◌, ◌∷◌, [], true, false, ap, subst, sym, ◌∙◌, arith}
+use Rattle.std.proofs.Common.{◌≡◌, ℕ, ◌+◌, cond, Bool, ◌++◌, ◌∷◌, [], ap, subst, sym, ◌∙◌, arith}
 use Rattle.rule_readings.proofs.LostFacts.{AreCountsTo, none_yet, small_total, small_before, counts_on, counts_done}
 use Rattle.rule_readings.proofs.lost.LostMinutes.new.Goals as goal
 use Rattle.rule_readings.proofs.lost.LostMinutes.new.Goals.{then-is_lost, else-is_lost}
