@@ -1,5 +1,5 @@
 -- A Canadian rule is kept at every place exactly where each of its counts is at most its limit.
-use Rattle.std.proofs.Common.{◌≡◌, ℕ, ◌+◌, ◌-◌, ◌≤◌, List, length, Option, Some, None, refl, sym, ◌∙◌, ap, subst, arith, IfSome}
+use Rattle.std.proofs.Common.{◌≡◌, ℕ, ◌+◌, ◌-◌, ◌≤◌, List, length, refl, sym, ◌∙◌, ap, subst, arith}
 use Rattle.duty_core.specs.declared.activity.Activity.{Activity}
 use Rattle.duty_core.specs.declared.activity.Activity.TheVariants.{Drive, Off}
 use Rattle.duty_core.specs.declared.mark.Mark.{Mark}
@@ -22,7 +22,6 @@ use Rattle.duty_core.specs.UniqueLaws.{base_unique, omitted_unique, last_end_uni
 use Rattle.duty_core.specs.ExistLaws.{has_last_end}
 use Rattle.rule_readings.proofs.HeldRuns.{in_run}
 use Rattle.rule_readings.specs.CaHistory.{IsPadded}
-use Rattle.rule_readings.specs.Count.{IsCount}
 use Rattle.rule_readings.specs.CaCounts.{IsSinceDayOff, IsCaCount, IsCaPlaceRule, ca_limit}
 
 -- # A count is made at a unit of driving

@@ -31,9 +31,6 @@ number_before (pos n) a o e h s = absurd (not_below n h)
 number_before (negsuc n) a None e h s = λ m g. s (omega (arith, ints))
 number_before (negsuc n) a (Some x) e h s = let l = s.0 in let v = s.1 in omega (arith, ints)
 
-pub small_after : (a : ℕ) → a ≤ 2147483648 → 29 + a < 4000000000
-small_after a l = omega arith
-
 -- a day has one number
 pub number_once : (day : ℤ) (n m : ℕ) → IsNumberOfDay day n → IsNumberOfDay day m → n ≡ m
 number_once day n m h g = ap nat_abs (sym h ∙ g)

@@ -1,5 +1,5 @@
 -- The rules of the United States, by what they count at places.
-use Rattle.std.proofs.Common.{◌≡◌, ℕ, ◌+◌, ◌-◌, ◌<◌, ◌≤◌, ◌↔◌, Bool, false, cond, List, Option, Some, None, Contains, length, get_or, refl, sym, ◌∙◌, ap, subst, arith, inl, inr, zero, suc, IfSome}
+use Rattle.std.proofs.Common.{◌≡◌, ℕ, ◌+◌, ◌-◌, ◌<◌, ◌≤◌, ◌↔◌, Bool, false, cond, List, Contains, length, get_or, refl, sym, ◌∙◌, ap, subst, arith, inl, inr, zero, suc}
 use Rattle.std.specs.Prelude.{count_by}
 use Rattle.std.proofs.lemmas.Bool.{cases_lt, cases_eq, cases_Bool}
 use Rattle.duty_core.specs.declared.activity.Activity.{Activity}
@@ -25,7 +25,6 @@ use Rattle.duty_core.specs.UniqueLaws.{base_unique, omitted_unique, last_break_u
 use Rattle.rule_readings.specs.declared.pairs.PairTerms.{PairTerms}
 use Rattle.rule_readings.specs.declared.pairs.PairBerth.TheVariants.{InEither}
 use Rattle.rule_readings.specs.Pairs.{IsPair, NamesSplit}
-use Rattle.rule_readings.specs.Count.{IsCount}
 use Rattle.rule_readings.specs.UsCounts.{IsUsCount, IsAmerican, IsUsMark, us_limit}
 
 -- # Breaks

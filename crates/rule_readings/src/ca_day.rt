@@ -1,11 +1,12 @@
 //! Days by the minute: their numbers and the places at which they begin.
-ghost use Rattle.std.specs.Prelude.{◌≡◌, ◌<◌, ◌≤◌, length};
+ghost use Rattle.std.specs.Prelude.{◌≡◌, ◌+◌, ◌<◌, ◌≤◌, length};
 ghost use Rattle.duty_core.specs.declared.activity.Activity.TheVariants.{Drive};
 ghost use Rattle.duty_core.specs.History.{unit_at};
 ghost use Rattle.duty_core.specs.Day.{day_start, day_number};
 ghost use Rattle.duty_core.specs.declared.limits.TheConstants.{MINUTE_LIMIT};
 ghost use Rattle.rule_readings.specs.CaHistory.{IsByMinutes};
 ghost use Rattle.rule_readings.specs.CaDays.{BeginsDay};
+ghost use Rattle.rule_readings.specs.declared.ca_day.TheConstants.{DAY_LIMIT};
 ghost use Rattle.rule_readings.specs.CaCounts.{IsDayDriving, IsDayDuty};
 
 use crate::days::first_of_days;
@@ -39,7 +40,7 @@ pub(crate) fn day_of(params: Params, first: Minute, i: u32) -> u32
 /// The first place whose day has this number or a later one.
 pub(crate) fn day_begin(params: Params, first: Minute, number: u32) -> u32
     requires minutes { IsByMinutes params first }
-    requires small { number ≤ 1000000 }
+    requires small { number ≤ DAY_LIMIT + 1 }
     ensures { BeginsDay (day_number params first) number result }
 {
     (number * DAY_MINUTES).saturating_sub(first + (DAY_MINUTES - start_of(params)))

@@ -1,11 +1,13 @@
 //! Ten hours of rest in each day in Canada, and its deferral, after SOR/2005-313, sections 14 and
 //! 16.
-ghost use Rattle.std.specs.Prelude.{◌≡◌, ℕ, ℤ, ◌+◌, ◌<◌, ◌≤◌, ◌↔◌, Contains, IsTrue, IfSome, MatchOption};
+ghost use Rattle.std.specs.Prelude.{◌≡◌, ℕ, ℤ, ◌+◌, ◌^◌, ◌<◌, ◌≤◌, ◌↔◌, Contains, IsTrue, IfSome, MatchOption};
 ghost use Rattle.duty_core.specs.declared.mark.Mark.TheVariants.{DeferDay};
 ghost use Rattle.duty_core.specs.Day.{day_number, IsNumberOfDay};
 ghost use Rattle.duty_core.specs.Marks.{IsDeferred};
 ghost use Rattle.duty_core.specs.Deferral.{IsInDeferral, MeetsCaOff10, HasRestIn, IsDeferral, IsDeferWay, IsCaDeferral, MeetsCaDefer};
 ghost use Rattle.rule_readings.specs.CaHistory.{IsByMinutes};
+ghost use Rattle.rule_readings.specs.declared.ca_day.TheConstants.{DAY_LIMIT};
+ghost use Rattle.rule_readings.specs.declared.deferral.TheConstants.{DAY_ZERO};
 ghost use Rattle.rule_readings.specs.Lost.{AreLostCounts};
 ghost use Rattle.rule_readings.specs.Deferring.{IsOpenRest, HasRunIn, DefersDay, MeetsMark};
 
@@ -23,7 +25,7 @@ const DAY_ZERO: u32 = 29;
 /// The number of a day. None where a padded history has no place so early.
 pub(crate) fn number_of(day: Day) -> Option<u32>
     ensures value { MatchOption result ((n : ℕ) → IsNumberOfDay day n → ⊥) (λ n. IsNumberOfDay day n) }
-    ensures bound { IfSome result (λ n. n < 4000000000) }
+    ensures bound { IfSome result (λ n. n ≤ DAY_ZERO + 2 ^ 31) }
 {
     let days = day.unsigned_abs();
     if day < 0 {
@@ -89,7 +91,7 @@ fn meets_off10(
 ) -> bool
     requires counts { AreLostCounts padded.now lost.now }
     requires minutes { IsByMinutes params first }
-    requires small { number < 1000000 }
+    requires small { number ≤ DAY_LIMIT }
     ensures { IsTrue result ↔ MeetsCaOff10 (day_number params first) padded.now (IsDeferred marks.now) number }
 {
     lost.in_day(padded, params, first, number) <= CA_LOST_LIMIT || is_in_deferral(marks, number)
@@ -142,7 +144,7 @@ fn is_run_in(run: RestRun, least: u32, begin: u32, end: u32) -> bool
 fn has_rest_in(padded: &Padded, params: Params, first: Minute, least: u32, number: u32) -> bool
     requires minutes { IsByMinutes params first }
     requires some { 0 < least }
-    requires small { number < 1000000 }
+    requires small { number ≤ DAY_LIMIT }
     ensures { IsTrue result ↔ HasRestIn (day_number params first) padded.now least number }
 {
     let begin = day_begin(params, first, number);

@@ -7,6 +7,7 @@ ghost use Rattle.duty_core.specs.LostMinutes.{rest_before, rest_from, is_lost, l
 ghost use Rattle.duty_core.specs.declared.limits.TheConstants.{CA_BLOCK_LEAST};
 ghost use Rattle.rule_readings.specs.CaHistory.{IsByMinutes};
 ghost use Rattle.rule_readings.specs.Lost.{AreLostCounts};
+ghost use Rattle.rule_readings.specs.declared.ca_day.TheConstants.{DAY_LIMIT};
 ghost use Rattle.rule_readings.specs.declared.padded.TheConstants.{LONGEST_PADDED};
 
 use crate::ca_day::day_begin;
@@ -53,7 +54,7 @@ impl LostMinutes {
     pub(crate) fn in_day(&self, padded: &Padded, params: Params, first: Minute, number: u32) -> u32
         requires counts { AreLostCounts padded.now self.now }
         requires minutes { IsByMinutes params first }
-        requires small { number < 1000000 }
+        requires small { number ≤ DAY_LIMIT }
         ensures value { result ≡ lost (day_number params first) padded.now number }
         ensures bound { result ≤ LONGEST_PADDED }
     {
@@ -95,7 +96,7 @@ fn rest_ahead(padded: &Padded, i: u32) -> u32
 
 /// The minutes of rest right before the next place, with a minute of this activity.
 fn rest_after(before: u32, act: Activity) -> u32
-    requires { before < 1000000 }
+    requires { before ≤ LONGEST_PADDED }
     ensures { result ≡ cond (rests act) (before + 1) 0 }
 {
     if is_rest(act) { before + 1 } else { 0 }
