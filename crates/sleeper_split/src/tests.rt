@@ -357,7 +357,17 @@ fn stands_for_what_is_worse(rt: HostRuntime) {
         "a full rest for all"
     );
     assert!(rt; stands(resting(600, 0, None), fit), "a full rest for all");
-    assert!(rt; !stands(resting(599, 599, None), fit), "no full rest yet");
+    assert!(rt; !stands(resting(599, 0, None), fit), "no full rest yet");
+    assert!(rt;
+        stands(resting(480, 480, None), fit),
+        "it may be split, and owe two hours"
+    );
+    assert!(rt; !stands(resting(479, 479, None), fit), "it would owe more");
+    assert!(rt;
+        stands(worn(300, rest(480)), fit),
+        "it owes two hours, as each split rest has"
+    );
+    assert!(rt; !stands(worn(300, rest(479)), fit), "it owes more");
 }
 
 #[test]
