@@ -17,7 +17,7 @@ use Rattle.sleeper_split.specs.Machine.{IsUsed, IsOpenRun, IsWithin, IsSplitCoun
 use Rattle.sleeper_split.specs.Choices.{Choice, choice, sleeps, choices}
 use Rattle.sleeper_split.specs.Limits.{and_left, and_right, and_both, below, upto, same, is_below, is_upto, is_same}
 use Rattle.sleeper_split.specs.ChoiceLaws.{fits, IsUndeclared, IsAsSplit, IsAsFull, IsChoice, choice_cases, is_choice}
-use Rattle.sleeper_split.specs.Covers.{IsBerthWithin, IsPairRule, WaitsWell, IsCountOf, allowed, own_rest, IsMonotone, IsBerthNoWorse, IsWaitNoWorse, IsDeep, IsBerthEnough, enough, IsReady, IsNoWorse, IsFresher, as_waiting, IsOwed, IsOwing, Covers, is_free, is_ahead, waits_none}
+use Rattle.sleeper_split.specs.Covers.{IsBerthWithin, IsPairRule, WaitsWell, IsCountOf, allowed, own_rest, IsMonotone, IsBerthNoWorse, IsWaitNoWorse, IsDeep, IsBerthEnough, IsReady, IsNoWorse, IsFresher, as_waiting, IsOwed, IsOwing, Covers, is_free, is_ahead, waits_none}
 
 -- # Tests and counts
 

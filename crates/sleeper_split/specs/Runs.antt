@@ -6,7 +6,7 @@ use Rattle.sleeper_split.specs.declared.count.Used.{Used}
 use Rattle.sleeper_split.specs.declared.count.OpenRun.{OpenRun}
 use Rattle.sleeper_split.specs.declared.count.WaitingRest.{WaitingRest}
 use Rattle.sleeper_split.specs.declared.count.SplitCount.{SplitCount}
-use Rattle.sleeper_split.specs.Machine.{IsUsed, IsOpenRun, IsSplitCount, made, no_run, one_more, longer, rested, after_rest, worked, after_duty}
+use Rattle.sleeper_split.specs.Machine.{made, no_run, one_more, longer, rested, after_rest, worked, after_duty}
 
 -- so many units, one by one
 abbrev pub repeated : (SplitCount → SplitCount) → ℕ → SplitCount → SplitCount
