@@ -118,11 +118,11 @@ since_waiting rule p Marked used later w a b g h = subst (λ n. IsUsedSince p n 
 pair_none : (rule : SplitRule) (w : Option WaitingRest) (r : OpenRun) → w ≡ None → may_pair rule w r ≡ true
 pair_none rule w r h = subst (λ v. may_pair rule v r ≡ true) (sym h) refl
 
-wait_neither : (rule : SplitRule) (w v : Option WaitingRest) (base last : Used) → w ≡ None → v ≡ None → IsWaitNoWorse rule w v base last
-wait_neither rule w v base last h g = subst (λ x. IsWaitNoWorse rule x v base last) (sym h) (subst (λ y. IsWaitNoWorse rule None y base last) (sym g) tt)
+wait_neither : (rule : SplitRule) (r : OpenRun) (w v : Option WaitingRest) (base last : Used) → w ≡ None → v ≡ None → IsWaitNoWorse rule r w v base last
+wait_neither rule r w v base last h g = subst (λ x. IsWaitNoWorse rule r x v base last) (sym h) (subst (λ y. IsWaitNoWorse rule r None y base last) (sym g) tt)
 
-wait_both : (rule : SplitRule) (w v : Option WaitingRest) (r s : WaitingRest) (base last : Used) → w ≡ Some r → v ≡ Some s → s.long ≤ r.long → IsBerthNoWorse rule.berth r s → IsWaitNoWorse rule w v base last
-wait_both rule w v r s base last h g l b = subst (λ x. IsWaitNoWorse rule x v base last) (sym h) (subst (λ y. IsWaitNoWorse rule (Some r) y base last) (sym g) (omega arith, b))
+wait_both : (rule : SplitRule) (q : OpenRun) (w v : Option WaitingRest) (r s : WaitingRest) (base last : Used) → w ≡ Some r → v ≡ Some s → s.long ≤ r.long → IsBerthNoWorse rule.berth r s → IsWaitNoWorse rule q w v base last
+wait_both rule q w v r s base last h g l b = subst (λ x. IsWaitNoWorse rule q x v base last) (sym h) (subst (λ y. IsWaitNoWorse rule q (Some r) y base last) (sym g) (omega arith, b))
 
 berth_both : (k : BerthRule) (p q : List Activity) (a b c d : ℕ) (r s : WaitingRest) → IsLongest p a b r.berth → IsLongest q c d s.berth → ((n : ℕ) → HoldsBerth n q c d → HoldsBerth n p a b) → IsBerthNoWorse k r s
 berth_both SevenInOne p q a b c d r s h g f = let z = berth_means h (f s.berth (berth_from g (omega arith))) in omega arith
@@ -142,7 +142,7 @@ better_run rule may p Marked q a va t e false mb g = let m = never_splits may fa
 -- the split rests that wait
 record IsWaitBetter (rule : SplitRule) (a b : SplitCount) : Type 0 where
   less_last : IsWithin a.last b.last
-  waiting : IsWaitNoWorse rule a.waiting b.waiting a.base b.last
+  waiting : IsWaitNoWorse rule a.run a.waiting b.waiting a.base b.last
 
 better_wait : (rule : SplitRule) (p : List Activity) (Marked : ℕ → Type 0) (q : List Activity) (Other : ℕ → Type 0) (a b : SplitCount) → Tracks rule p Marked a → Tracks rule q Other b → HasLast rule p Marked a.base a.last a.waiting → HasLast rule q Other b.base b.last b.waiting → IsWithin a.base b.base →
     NoneWaits rule.full p Marked × NoneWaits rule.full q Other ⊎ BothWait rule.full p Marked q Other → IsWaitBetter rule a b
@@ -150,14 +150,14 @@ better_wait rule p Marked q Other a b t u h k l g = elim g [
   | inl n ↦
       (let x = not_waiting rule p Marked a.base a.last a.waiting n.0 h in
       let y = not_waiting rule q Other b.base b.last b.waiting n.1 k in
-      record { less_last = subst (λ r. IsWithin r b.last) x.0 (subst (IsWithin a.base) y.0 l); waiting = wait_neither rule a.waiting b.waiting a.base b.last x.1 y.1 })
+      record { less_last = subst (λ r. IsWithin r b.last) x.0 (subst (IsWithin a.base) y.0 l); waiting = wait_neither rule a.run a.waiting b.waiting a.base b.last x.1 y.1 })
   | inr w ↦
       (let x = waiting rule p Marked a t w.a w.b w.waits in
       let y = waiting rule q Other b u w.c w.d w.other_waits in
       let i = x.2 in let j = y.2 in let n = w.long in
       record {
         less_last = less_used p q w.b 0 w.d 0 a.last b.last (since_waiting rule p Marked a.base a.last a.waiting w.a w.b w.waits h) (since_waiting rule q Other b.base b.last b.waiting w.c w.d w.other_waits k) w.less_driving w.less_duty (let e = w.less_elapsed in omega arith);
-        waiting = wait_both rule a.waiting b.waiting x.0 y.0 a.base b.last x.1 y.1 (omega arith) (berth_both rule.berth p q w.a w.b w.c w.d x.0 y.0 x.3 y.3 w.berth);
+        waiting = wait_both rule a.run a.waiting b.waiting x.0 y.0 a.base b.last x.1 y.1 (omega arith) (berth_both rule.berth p q w.a w.b w.c w.d x.0 y.0 x.3 y.3 w.berth);
       })
 ]
 

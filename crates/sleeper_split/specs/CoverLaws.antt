@@ -17,7 +17,7 @@ use Rattle.sleeper_split.specs.Machine.{IsUsed, IsOpenRun, IsWithin, IsSplitCoun
 use Rattle.sleeper_split.specs.Choices.{Choice, choice, sleeps, choices}
 use Rattle.sleeper_split.specs.Limits.{and_left, and_right, and_both, below, upto, same, is_below, is_upto, is_same}
 use Rattle.sleeper_split.specs.ChoiceLaws.{fits, IsUndeclared, IsAsSplit, IsAsFull, IsChoice, choice_cases, is_choice}
-use Rattle.sleeper_split.specs.Covers.{IsBerthWithin, IsPairRule, WaitsWell, IsCountOf, allowed, own_rest, IsMonotone, IsBerthNoWorse, IsWaitNoWorse, IsDeep, IsReady, IsNoWorse, IsFresher, as_waiting, IsOwed, IsOwing, Covers, is_free, is_ahead, waits_none}
+use Rattle.sleeper_split.specs.Covers.{IsBerthWithin, IsPairRule, WaitsWell, IsCountOf, allowed, own_rest, IsMonotone, IsBerthNoWorse, IsWaitNoWorse, IsDeep, IsBerthEnough, IsReady, IsNoWorse, IsFresher, as_waiting, IsOwed, IsOwing, Covers, is_free, is_ahead, waits_none}
 
 -- # Tests and counts
 
@@ -166,10 +166,16 @@ has_pair_more SevenInOne w v r q b d t = elim (or_cases (nat_le US_PAIR_BERTH v.
 ]
 has_pair_more AllOfNext w v r q b d t = let e = same q.stretch q.long t in is_same r.stretch r.long (elim d [ inl i ↦ i | inr i ↦ (let x = i.0 in let y = i.1 in omega arith) ])
 
+-- a rest that makes a pair with each second rest
+berth_enough : (k : BerthRule) (w : WaitingRest) (r : OpenRun) → IsBerthEnough k w → IsReady k (Some w) r → has_pair_berth k w r ≡ true
+berth_enough SevenInOne w r h g = or_left (nat_le US_PAIR_BERTH w.berth) (nat_le US_PAIR_BERTH r.longest) (is_upto US_PAIR_BERTH w.berth h)
+berth_enough AllOfNext w r h (inl e) = is_same r.stretch r.long e
+berth_enough AllOfNext w r h (inr t) = t
+
 -- the pair test holds of more, where the run may be the second one of a pair
-pair_more : (rule : SplitRule) (w v : Option WaitingRest) (r q : OpenRun) (base last : Used) → IsWaitNoWorse rule w v base last → rule.least ≤ q.long → q.long ≤ r.long → IsDeep rule.berth r q ⊎ (w ≡ None) → may_pair rule v q ≡ true → may_pair rule w r ≡ true
+pair_more : (rule : SplitRule) (w v : Option WaitingRest) (r q : OpenRun) (base last : Used) → IsWaitNoWorse rule r w v base last → rule.least ≤ q.long → q.long ≤ r.long → IsDeep rule.berth r q ⊎ (w ≡ None) → may_pair rule v q ≡ true → may_pair rule w r ≡ true
 pair_more rule None v r q base last h m l d t = refl
-pair_more rule (Some w) None r q base last h m l d t = absurd h
+pair_more rule (Some w) None r q base last h m l d t = and_both (nat_le rule.pair (w.long + r.long)) (has_pair_berth rule.berth w r) (is_upto rule.pair (w.long + r.long) (let x = h.0 in omega arith)) (berth_enough rule.berth w r h.1 h.2)
 pair_more rule (Some w) (Some v) r q base last h m l (inr d) t = absurd (let z : Some w ≡ None = d in cc)
 pair_more rule (Some w) (Some v) r q base last h m l (inl d) t =
     let c = upto rule.pair (v.long + q.long) (and_left (nat_le rule.pair (v.long + q.long)) (has_pair_berth rule.berth v q) t) in
@@ -226,23 +232,41 @@ berth_same : (k : BerthRule) (w : WaitingRest) → IsBerthNoWorse k w w
 berth_same SevenInOne w = omega arith
 berth_same AllOfNext w = tt
 
-wait_same : (rule : SplitRule) (w : Option WaitingRest) (base last : Used) → IsWaitNoWorse rule w w base last
-wait_same rule None base last = tt
-wait_same rule (Some w) base last = (omega arith, berth_same rule.berth w)
+wait_same : (rule : SplitRule) (r : OpenRun) (w : Option WaitingRest) (base last : Used) → IsWaitNoWorse rule r w w base last
+wait_same rule r None base last = tt
+wait_same rule r (Some w) base last = (omega arith, berth_same rule.berth w)
 
-wait_over : (rule : SplitRule) (u w v : Option WaitingRest) (b1 b2 l2 l3 : Used) → IsWithin b1 b2 → IsWithin l2 l3 → IsWaitNoWorse rule u w b1 l2 → IsWaitNoWorse rule w v b2 l3 → IsWaitNoWorse rule u v b1 l3
-wait_over rule None None None b1 b2 l2 l3 h g p q = tt
-wait_over rule None None (Some v) b1 b2 l2 l3 h g p q = within_over b1 b2 l3 h q
-wait_over rule None (Some w) None b1 b2 l2 l3 h g p q = absurd q
-wait_over rule None (Some w) (Some v) b1 b2 l2 l3 h g p q = within_over b1 l2 l3 p g
-wait_over rule (Some u) None v b1 b2 l2 l3 h g p q = absurd p
-wait_over rule (Some u) (Some w) None b1 b2 l2 l3 h g p q = absurd q
-wait_over rule (Some u) (Some w) (Some v) b1 b2 l2 l3 h g p q = (let a = p.0 in let c = q.0 in omega arith, berth_over rule.berth u w v p.1 q.1)
+enough_over : (k : BerthRule) (u w : WaitingRest) → IsBerthNoWorse k u w → IsBerthEnough k w → IsBerthEnough k u
+enough_over SevenInOne u w h g = omega arith
+enough_over AllOfNext u w h g = tt
 
-wait_none : (rule : SplitRule) (w v : Option WaitingRest) (base last : Used) → IsWaitNoWorse rule w v base last → v ≡ None → w ≡ None
-wait_none rule None v base last h e = refl
-wait_none rule (Some w) None base last h e = absurd h
-wait_none rule (Some w) (Some v) base last h e = absurd (let z : Some v ≡ None = e in cc)
+enough_for : (k : BerthRule) (u v : WaitingRest) → IsBerthEnough k u → IsBerthNoWorse k u v
+enough_for SevenInOne u v h = omega arith
+enough_for AllOfNext u v h = tt
+
+-- the run behind a rest that is enough is ready, where a run behind one that it is no worse than is so
+enough_ready : (k : BerthRule) (u w : WaitingRest) (r q : OpenRun) → IsBerthEnough k u → IsDeep k r q → IsReady k (Some w) q → IsReady k (Some u) r
+enough_ready SevenInOne u w r q h d g = inr (or_left (nat_le US_PAIR_BERTH u.berth) (nat_le US_PAIR_BERTH r.longest) (is_upto US_PAIR_BERTH u.berth h))
+enough_ready AllOfNext u w r q h (inl d) g = inl d
+enough_ready AllOfNext u w r q h (inr d) (inl e) = inl (let a = d.0 in let b = d.1 in omega arith)
+enough_ready AllOfNext u w r q h (inr d) (inr t) = inl (let e = same q.stretch q.long t in let a = d.0 in let b = d.1 in omega arith)
+
+wait_over : (rule : SplitRule) (r q : OpenRun) (u w v : Option WaitingRest) (b1 b2 l2 l3 : Used) → IsDeep rule.berth r q ⊎ (u ≡ None) → IsWithin b1 b2 → IsWithin l2 l3 → IsWaitNoWorse rule r u w b1 l2 → IsWaitNoWorse rule q w v b2 l3 → IsWaitNoWorse rule r u v b1 l3
+wait_over rule r q None None None b1 b2 l2 l3 d h g p n = tt
+wait_over rule r q None None (Some v) b1 b2 l2 l3 d h g p n = within_over b1 b2 l3 h n
+wait_over rule r q None (Some w) None b1 b2 l2 l3 d h g p n = tt
+wait_over rule r q None (Some w) (Some v) b1 b2 l2 l3 d h g p n = within_over b1 l2 l3 p g
+wait_over rule r q (Some u) None None b1 b2 l2 l3 d h g p n = p
+wait_over rule r q (Some u) None (Some v) b1 b2 l2 l3 d h g p n = (let a = p.0 in omega arith, enough_for rule.berth u v p.1)
+wait_over rule r q (Some u) (Some w) None b1 b2 l2 l3 (inr d) h g p n = absurd (let z : Some u ≡ None = d in cc)
+wait_over rule r q (Some u) (Some w) None b1 b2 l2 l3 (inl d) h g p n =
+    let e = enough_over rule.berth u w p.1 n.1 in
+    (let a = p.0 in let c = n.0 in omega arith, e, enough_ready rule.berth u w r q e d n.2)
+wait_over rule r q (Some u) (Some w) (Some v) b1 b2 l2 l3 d h g p n = (let a = p.0 in let c = n.0 in omega arith, berth_over rule.berth u w v p.1 n.1)
+
+-- where rests may not be split nothing waits
+pub nothing_waits : (rule : SplitRule) (may : Bool) (a : SplitCount) → IsCountOf rule may a → may ≡ false → a.waiting ≡ None
+nothing_waits rule may a va m = elim (waits_cases rule may a.waiting va.waits) [ inl n ↦ n | inr t ↦ absurd (let z : true ≡ false = sym t ∙ m in cc) ]
 
 pub covers_same : (rule : SplitRule) (may : Bool) (a : SplitCount) → Covers rule may a a
 covers_same rule may a = inr (inl (record {
@@ -251,7 +275,7 @@ covers_same rule may a = inr (inl (record {
   keeps = inl refl;
   less_base = within_same a.base;
   less_last = within_same a.last;
-  waiting = wait_same rule a.waiting a.base a.last;
+  waiting = wait_same rule a.run a.waiting a.base a.last;
 }))
 
 no_worse_pair : (rule : SplitRule) (may : Bool) (a b : SplitCount) → IsNoWorse rule may a b → rule.least ≤ b.run.long → may_pair rule b.waiting b.run ≡ true → may_pair rule a.waiting a.run ≡ true
@@ -266,9 +290,9 @@ all_over SevenInOne w r q o d e h = let a = o.ends in let b = o.inside in let c 
 all_over AllOfNext w r q o (inl d) e h = inl d
 all_over AllOfNext w r q o (inr d) e h = inl (let a = d.1 in omega arith)
 
-ready_over : (rule : SplitRule) (w v : Option WaitingRest) (r q : OpenRun) (base last : Used) → IsOpenRun r → IsWaitNoWorse rule w v base last → IsDeep rule.berth r q → r.long ≡ q.long → IsReady rule.berth v q → IsReady rule.berth w r
+ready_over : (rule : SplitRule) (w v : Option WaitingRest) (r q : OpenRun) (base last : Used) → IsOpenRun r → IsWaitNoWorse rule r w v base last → IsDeep rule.berth r q → r.long ≡ q.long → IsReady rule.berth v q → IsReady rule.berth w r
 ready_over rule None v r q base last o h d e g = tt
-ready_over rule (Some w) None r q base last o h d e g = absurd h
+ready_over rule (Some w) None r q base last o h d e g = h.2
 ready_over rule (Some w) (Some v) r q base last o h d e (inl g) = all_over rule.berth w r q o d e g
 ready_over rule (Some w) (Some v) r q base last o h d e (inr g) = inr (has_pair_more rule.berth w v r q h.1 d g)
 
@@ -284,7 +308,7 @@ no_worse_over rule may a b c va h k = let r1 = h.run in let r2 = k.run in record
   run = omega arith;
   deep = elim h.deep [
     | inr u ↦ inr u
-    | inl u ↦ elim k.deep [ inl v ↦ inl (deep_over rule.berth a.run b.run c.run u v) | inr v ↦ inr (v.0, wait_none rule a.waiting b.waiting a.base b.last h.waiting v.1) ]
+    | inl u ↦ elim k.deep [ inl v ↦ inl (deep_over rule.berth a.run b.run c.run u v) | inr v ↦ inr (v.0, nothing_waits rule may a va v.0) ]
   ];
   keeps = elim h.keeps [
     | inr u ↦ inr u
@@ -298,7 +322,7 @@ no_worse_over rule may a b c va h k = let r1 = h.run in let r2 = k.run in record
   ];
   less_base = within_over a.base b.base c.base h.less_base k.less_base;
   less_last = within_over a.last b.last c.last h.less_last k.less_last;
-  waiting = wait_over rule a.waiting b.waiting c.waiting a.base b.base b.last c.last h.less_base k.less_last h.waiting k.waiting;
+  waiting = wait_over rule a.run b.run a.waiting b.waiting c.waiting a.base b.base b.last c.last (elim h.deep [ inl d ↦ inl d | inr d ↦ inr d.1 ]) h.less_base k.less_last h.waiting k.waiting;
 }
 
 split_berth_more : (k : BerthRule) (r q : OpenRun) → IsDeep k r q → has_split_berth k q ≡ true → has_split_berth k r ≡ true
@@ -314,8 +338,11 @@ deep_berth : (k : BerthRule) (r q : OpenRun) → IsDeep k r q → IsBerthNoWorse
 deep_berth SevenInOne r q d = d.1
 deep_berth AllOfNext r q d = tt
 
+deep_enough : (k : BerthRule) (r q : OpenRun) → IsDeep k r q → IsBerthEnough k (as_waiting q) → IsBerthEnough k (as_waiting r)
+deep_enough k r q d h = enough_over k (as_waiting r) (as_waiting q) (deep_berth k r q d) h
+
 owed_more : (rule : SplitRule) (r q : OpenRun) (u v : Used) (w : Option WaitingRest) (c : SplitCount) → q.long ≤ r.long → IsDeep rule.berth r q → IsWithin u v → IsOwed rule q v w c → IsOwed rule r u w c
-owed_more rule r q u v None c l n i h = absurd h
+owed_more rule r q u v None c l n i h = (let x = h.0 in omega arith, deep_enough rule.berth r q n h.1, within_over u v c.base i h.2)
 owed_more rule r q u v (Some w) c l n i h = (let x = h.0 in omega arith, berth_over rule.berth (as_waiting r) (as_waiting q) w (deep_berth rule.berth r q n) h.1, within_over u v c.base i h.2)
 
 no_worse_owing : (rule : SplitRule) (may : Bool) (a b c : SplitCount) → IsNoWorse rule may a b → IsOwing rule may b c → IsOwing rule may a c
@@ -330,10 +357,11 @@ no_worse_owing rule may a b c h k =
       owed = owed_more rule a.run b.run (without_run a) (without_run b) c.waiting c r d (within_run a b r h.less_last) k.owed;
     }
 
-owed_less : (rule : SplitRule) (r : OpenRun) (u : Used) (w v : Option WaitingRest) (b c : SplitCount) (base last : Used) → c.run.long ≤ b.run.long → IsWithin b.base c.base → IsWaitNoWorse rule w v base last → IsOwed rule r u w b → IsOwed rule r u v c
-owed_less rule r u None v b c base last l i n h = absurd h
-owed_less rule r u (Some w) None b c base last l i n h = absurd n
-owed_less rule r u (Some w) (Some v) b c base last l i n h = (let x = h.0 in let y = n.0 in omega arith, berth_over rule.berth (as_waiting r) w v h.1 n.1, within_over u b.base c.base h.2 i)
+owed_less : (rule : SplitRule) (r q : OpenRun) (u : Used) (w v : Option WaitingRest) (b c : SplitCount) (base last : Used) → c.run.long ≤ b.run.long → IsWithin b.base c.base → IsWaitNoWorse rule q w v base last → IsOwed rule r u w b → IsOwed rule r u v c
+owed_less rule r q u None None b c base last l i n h = (let x = h.0 in omega arith, h.1, within_over u b.base c.base h.2 i)
+owed_less rule r q u None (Some v) b c base last l i n h = (let x = h.0 in omega arith, enough_for rule.berth (as_waiting r) v h.1, within_over u b.base c.base h.2 i)
+owed_less rule r q u (Some w) None b c base last l i n h = (let x = h.0 in let y = n.0 in omega arith, enough_over rule.berth (as_waiting r) w h.1 n.1, within_over u b.base c.base h.2 i)
+owed_less rule r q u (Some w) (Some v) b c base last l i n h = (let x = h.0 in let y = n.0 in omega arith, berth_over rule.berth (as_waiting r) w v h.1 n.1, within_over u b.base c.base h.2 i)
 
 owing_no_worse : (rule : SplitRule) (may : Bool) (a b c : SplitCount) → IsOwing rule may a b → IsNoWorse rule may b c → IsOwing rule may a c
 owing_no_worse rule may a b c h k = record {
@@ -341,16 +369,16 @@ owing_no_worse rule may a b c h k = record {
   least = h.least;
   berth = h.berth;
   pair = h.pair;
-  owed = owed_less rule a.run (without_run a) b.waiting c.waiting b c b.base c.last k.run k.less_base k.waiting h.owed;
+  owed = owed_less rule a.run b.run (without_run a) b.waiting c.waiting b c b.base c.last k.run k.less_base k.waiting h.owed;
 }
 
 -- where b's run is a pair with what waits in it, a's run is as long as a pair
 pair_owed : (rule : SplitRule) (r : OpenRun) (u : Used) (w : Option WaitingRest) (b : SplitCount) → IsOwed rule r u w b → rule.least ≤ b.run.long → may_pair rule w b.run ≡ true → rule.pair ≤ r.long
-pair_owed rule r u None b h m t = absurd h
+pair_owed rule r u None b h m t = let x = h.0 in omega arith
 pair_owed rule r u (Some v) b h m t = let x = h.0 in let l = upto rule.pair (v.long + b.run.long) (and_left (nat_le rule.pair (v.long + b.run.long)) (has_pair_berth rule.berth v b.run) t) in omega arith
 
 run_owed : (rule : SplitRule) (r : OpenRun) (u : Used) (w : Option WaitingRest) (b : SplitCount) → IsOwed rule r u w b → b.run.long ≤ r.long
-run_owed rule r u None b h = absurd h
+run_owed rule r u None b h = let x = h.0 in omega arith
 run_owed rule r u (Some v) b h = let x = h.0 in omega arith
 
 pub covers_over : (rule : SplitRule) (may : Bool) (a b c : SplitCount) → IsPairRule rule → IsCountOf rule may a → Covers rule may a b → Covers rule may b c → Covers rule may a c
@@ -381,30 +409,24 @@ deep_none : (k : BerthRule) → IsDeep k no_run no_run
 deep_none SevenInOne = (omega arith, omega arith)
 deep_none AllOfNext = inl refl
 
-wait_duty : (rule : SplitRule) (w v : Option WaitingRest) (d : Bool) (base last : Used) → IsWaitNoWorse rule w v base last → IsWaitNoWorse rule w v (worked d base) (worked d last)
-wait_duty rule None None d base last h = tt
-wait_duty rule None (Some v) d base last h = within_duty d base last h
-wait_duty rule (Some w) None d base last h = absurd h
-wait_duty rule (Some w) (Some v) d base last h = h
-
-wait_rest : (rule : SplitRule) (w v : Option WaitingRest) (base last : Used) → IsWaitNoWorse rule w v base last → IsWaitNoWorse rule w v (rested base) (rested last)
-wait_rest rule None None base last h = tt
-wait_rest rule None (Some v) base last h = within_rest base last h
-wait_rest rule (Some w) None base last h = absurd h
-wait_rest rule (Some w) (Some v) base last h = h
+wait_duty : (rule : SplitRule) (r : OpenRun) (w v : Option WaitingRest) (d : Bool) (base last : Used) → IsWaitNoWorse rule r w v base last → IsWaitNoWorse rule no_run w v (worked d base) (worked d last)
+wait_duty rule r None None d base last h = tt
+wait_duty rule r None (Some v) d base last h = within_duty d base last h
+wait_duty rule r (Some w) None d base last h = (h.0, h.1, inl refl)
+wait_duty rule r (Some w) (Some v) d base last h = h
 
 -- behind a unit of duty
-duty_no_worse : (rule : SplitRule) (may : Bool) (d : Bool) (a b : SplitCount) → IsWithin a.base b.base → IsWithin a.last b.last → IsWaitNoWorse rule a.waiting b.waiting a.base b.last → IsNoWorse rule may (after_duty d a) (after_duty d b)
-duty_no_worse rule may d a b h g w = record {
+duty_no_worse : (rule : SplitRule) (may : Bool) (d : Bool) (r : OpenRun) (a b : SplitCount) → IsWithin a.base b.base → IsWithin a.last b.last → IsWaitNoWorse rule r a.waiting b.waiting a.base b.last → IsNoWorse rule may (after_duty d a) (after_duty d b)
+duty_no_worse rule may d r a b h g w = record {
   run = omega arith;
   deep = inl (deep_none rule.berth);
   keeps = inl refl;
   less_base = within_duty d a.base b.base h;
   less_last = within_duty d a.last b.last g;
-  waiting = wait_duty rule a.waiting b.waiting d a.base b.last w;
+  waiting = wait_duty rule r a.waiting b.waiting d a.base b.last w;
 }
 
-wait_least : (rule : SplitRule) (v : Option WaitingRest) (d : Bool) (last : Used) → IsWaitNoWorse rule None v (worked d none_used) (worked d last)
+wait_least : (rule : SplitRule) (v : Option WaitingRest) (d : Bool) (last : Used) → IsWaitNoWorse rule no_run None v (worked d none_used) (worked d last)
 wait_least rule None d last = tt
 wait_least rule (Some v) d last = within_least d last
 
@@ -449,7 +471,7 @@ undeclared_answers : (rule : SplitRule) (may : Bool) (ok : SplitCount → Bool) 
 undeclared_answers rule may ok a b x c m h l k = record {
   choice = choice (after_duty (drives x) a) false;
   is = inr (inl (record { work = k.work; short = l; fit = fits_less ok x a b m (within_duty (drives x) a.base b.base h.less_base) k.fit; is = refl }));
-  covers = subst (λ s. Covers rule may (after_duty (drives x) a) s) (count_is (after_duty (drives x) b) false c k.is) (inr (inl (duty_no_worse rule may (drives x) a b h.less_base h.less_last h.waiting)));
+  covers = subst (λ s. Covers rule may (after_duty (drives x) a) s) (count_is (after_duty (drives x) b) false c k.is) (inr (inl (duty_no_worse rule may (drives x) a.run a b h.less_base h.less_last h.waiting)));
 }
 
 may_split_from : (rule : SplitRule) (a : SplitCount) → rule.least ≤ a.run.long → a.run.long < rule.full → has_split_berth rule.berth a.run ≡ true → may_pair rule a.waiting a.run ≡ true → may_split rule a ≡ true
@@ -476,7 +498,7 @@ split_answers rule may ok a b x c m h l k =
         is = refl;
       })));
       covers = subst (λ t. Covers rule may (after_duty (drives x) (split_count a)) t) (count_is (after_duty (drives x) (split_count b)) true c k.is)
-          (inr (inl (duty_no_worse rule may (drives x) (split_count a) (split_count b) u (within_same none_used) (omega arith, deep_berth rule.berth a.run b.run d))));
+          (inr (inl (duty_no_worse rule may (drives x) no_run (split_count a) (split_count b) u (within_same none_used) (omega arith, deep_berth rule.berth a.run b.run d))));
     }
 
 -- a's run is a full rest that may end as one, where b goes on
@@ -505,12 +527,12 @@ no_worse_answers rule may ok a b x c good m va h g = elim g [
 ]
 
 -- a ends its run as a split rest, where b goes on without one
-owed_wait : (rule : SplitRule) (r : OpenRun) (u base last : Used) (w : Option WaitingRest) (b : SplitCount) → IsOwed rule r u w b → IsWaitNoWorse rule (Some (as_waiting r)) w base last
-owed_wait rule r u base last None b h = absurd h
+owed_wait : (rule : SplitRule) (r : OpenRun) (u base last : Used) (w : Option WaitingRest) (b : SplitCount) → IsOwed rule r u w b → IsWaitNoWorse rule no_run (Some (as_waiting r)) w base last
+owed_wait rule r u base last None b h = (let x = h.0 in omega arith, h.1, inl refl)
 owed_wait rule r u base last (Some v) b h = (let x = h.0 in omega arith, h.1)
 
 owed_within : (rule : SplitRule) (r : OpenRun) (u : Used) (w : Option WaitingRest) (b : SplitCount) → IsOwed rule r u w b → IsWithin u b.base
-owed_within rule r u None b h = absurd h
+owed_within rule r u None b h = h.2
 owed_within rule r u (Some v) b h = h.2
 
 none_within : (u : Used) → IsWithin none_used u
@@ -528,7 +550,7 @@ owing_splits rule may ok a b x c m h some l k = let u = owed_within rule a.run (
     is = refl;
   })));
   covers = subst (λ t. Covers rule may (after_duty (drives x) (split_count a)) t) (count_is (after_duty (drives x) b) false c k.is)
-      (inr (inl (duty_no_worse rule may (drives x) (split_count a) b u (none_within b.last) (owed_wait rule a.run (without_run a) (without_run a) b.last b.waiting b h.owed))));
+      (inr (inl (duty_no_worse rule may (drives x) no_run (split_count a) b u (none_within b.last) (owed_wait rule a.run (without_run a) (without_run a) b.last b.waiting b h.owed))));
 }
 
 owing_answers : (rule : SplitRule) (may : Bool) (ok : SplitCount → Bool) (a b : SplitCount) (x : Activity) (c : Choice) → IsPairRule rule → IsMonotone ok → IsOwing rule may a b → IsUndeclared rule ok b x c ⊎ IsAsSplit rule may ok b x c ⊎ IsAsFull rule ok b x c → HasCover rule may ok a x c
@@ -579,10 +601,6 @@ pub never_splits : (may berth : Bool) → (may ≡ true → berth ≡ true) → 
 never_splits true berth mb h = absurd (let z : true ≡ false = sym (mb refl) ∙ h in cc)
 never_splits false berth mb h = refl
 
--- without a berth nothing waits
-pub nothing_waits : (rule : SplitRule) (may : Bool) (a : SplitCount) → IsCountOf rule may a → may ≡ false → a.waiting ≡ None
-nothing_waits rule may a va m = elim (waits_cases rule may a.waiting va.waits) [ inl n ↦ n | inr t ↦ absurd (let z : true ≡ false = sym t ∙ m in cc) ]
-
 deep_on : (rule : SplitRule) (may berth : Bool) (a b : SplitCount) (x : Activity) → IsCountOf rule may a → (may ≡ true → berth ≡ true) → allowed berth x ≡ true → rests x ≡ true → IsDeep rule.berth a.run b.run ⊎ ((may ≡ false) × (a.waiting ≡ None)) →
     IsDeep rule.berth (longer (sleeps x) a.run) (longer (sleeps x) b.run) ⊎ ((may ≡ false) × (a.waiting ≡ None))
 deep_on rule may berth a b x va mb l r (inr n) = inr n
@@ -601,6 +619,12 @@ ready_on k (Some w) r x (inr h) g = subst (λ y. ((longer (sleeps y) r).stretch 
   | inr t ↦ inr (berth_on k w r t)
 ])
 
+wait_rest : (rule : SplitRule) (r : OpenRun) (w v : Option WaitingRest) (x : Activity) (base last : Used) → (w ≡ None) ⊎ (x ≡ Berth) → IsWaitNoWorse rule r w v base last → IsWaitNoWorse rule (longer (sleeps x) r) w v (rested base) (rested last)
+wait_rest rule r None None x base last e h = tt
+wait_rest rule r None (Some v) x base last e h = within_rest base last h
+wait_rest rule r (Some w) None x base last e h = (h.0, h.1, ready_on rule.berth (Some w) r x e h.2)
+wait_rest rule r (Some w) (Some v) x base last e h = h
+
 no_worse_on : (rule : SplitRule) (may berth : Bool) (a b : SplitCount) (x : Activity) → IsCountOf rule may a → (may ≡ true → berth ≡ true) → allowed berth x ≡ true → rests x ≡ true → IsNoWorse rule may a b → IsNoWorse rule may (after_rest (sleeps x) a) (after_rest (sleeps x) b)
 no_worse_on rule may berth a b x va mb l r h = record {
   run = let n = h.run in omega arith;
@@ -608,7 +632,7 @@ no_worse_on rule may berth a b x va mb l r h = record {
   keeps = elim h.keeps [ inl e ↦ inl (ap one_more e) | inr u ↦ inr (ready_on rule.berth a.waiting a.run x (rest_kind rule may berth a x va mb l r) u) ];
   less_base = within_rest a.base b.base h.less_base;
   less_last = within_rest a.last b.last h.less_last;
-  waiting = wait_rest rule a.waiting b.waiting a.base b.last h.waiting;
+  waiting = wait_rest rule a.run a.waiting b.waiting x a.base b.last (rest_kind rule may berth a x va mb l r) h.waiting;
 }
 
 split_berth_on : (k : BerthRule) (r : OpenRun) → has_split_berth k r ≡ true → has_split_berth k (longer true r) ≡ true
@@ -620,7 +644,11 @@ longer_berth SevenInOne y r = omega arith
 longer_berth AllOfNext y r = tt
 
 owed_on : (rule : SplitRule) (r : OpenRun) (u e : Used) (w : Option WaitingRest) (b : SplitCount) (y : Bool) → r.long < COUNT_LIMIT → IsWithin e u → e.elapsed ≤ COUNT_LIMIT → IsOwed rule r u w b → IsOwed rule (longer y r) e w (after_rest y b)
-owed_on rule r u e None b y s i l h = absurd h
+owed_on rule r u e None b y s i l h =
+    let a = h.0 in
+    let n = within_over e u b.base i h.2 in
+    let j = n.less_elapsed in
+    (omega arith, enough_over rule.berth (as_waiting (longer y r)) (as_waiting r) (longer_berth rule.berth y r) h.1, record { less_driving = n.less_driving; less_duty = n.less_duty; less_elapsed = omega arith })
 owed_on rule r u e (Some v) b y s i l h =
     let a = h.0 in
     let n = within_over e u b.base i h.2 in
@@ -734,8 +762,8 @@ ahead_deep rule may berth s AllOfNext vs mb (inr e) = elim (or_cases (not may) (
   | inr u ↦ inr (e.0, upto rule.full s.run.long u)
 ]
 
-wait_idle : (rule : SplitRule) (w : Option WaitingRest) (d : Bool) (base last : Used) → IsWaitNoWorse rule w w (rested base) (worked d last)
-wait_idle rule w d base last = wait_same rule w (rested base) (worked d last)
+wait_idle : (rule : SplitRule) (r : OpenRun) (w : Option WaitingRest) (d : Bool) (base last : Used) → IsWaitNoWorse rule r w w (rested base) (worked d last)
+wait_idle rule r w d base last = wait_same rule r w (rested base) (worked d last)
 
 within_worked : (d : Bool) (u : Used) → IsUsed u → IsWithin u (worked d u)
 within_worked true u h = let a = h.works in let b = h.bounded_duty in let c = h.bounded in record { less_driving = omega arith; less_duty = omega arith; less_elapsed = omega arith }
@@ -755,7 +783,7 @@ ahead_undeclared rule may berth ok s x c vs mb h k =
         keeps = inr (ready_on rule.berth s.waiting s.run y (rest_kind rule may berth s y vs mb r.1 r.0) (elim cases [ inl e ↦ ready_all rule.berth s.waiting s.run e | inr e ↦ ready_none rule.berth s.waiting s.run e.0 ]));
         less_base = within_idle (drives x) s.base vs.is_count.is_base;
         less_last = within_idle (drives x) s.last vs.is_count.is_last;
-        waiting = wait_idle rule s.waiting (drives x) s.base s.last;
+        waiting = wait_idle rule (longer (sleeps y) s.run) s.waiting (drives x) s.base s.last;
       }))
     ])
 

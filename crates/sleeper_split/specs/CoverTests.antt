@@ -12,7 +12,7 @@ use Rattle.sleeper_split.specs.declared.count.SplitCount.{SplitCount}
 use Rattle.sleeper_split.specs.Machine.{IsWithin, has_pair_berth, has_split_berth, may_pair, without_run}
 use Rattle.sleeper_split.specs.Limits.{and_left, and_right, and_both, upto, same, is_upto, is_same}
 use Rattle.sleeper_split.specs.CoverLaws.{or_cases, or_left, or_right, none_means, none_from}
-use Rattle.sleeper_split.specs.Covers.{IsBerthNoWorse, IsWaitNoWorse, IsDeep, IsReady, IsNoWorse, as_waiting, IsOwed, IsOwing, Covers, is_within, waits_none, is_berth_no_worse, is_wait_no_worse, is_deep, is_ready, serving, is_no_worse, is_fresher, is_owed, is_owing, covers_count}
+use Rattle.sleeper_split.specs.Covers.{IsBerthNoWorse, IsWaitNoWorse, IsDeep, IsBerthEnough, enough, is_berth_enough, IsReady, IsNoWorse, as_waiting, IsOwed, IsOwing, Covers, is_within, waits_none, is_berth_no_worse, is_wait_no_worse, is_deep, is_ready, serving, is_no_worse, is_fresher, is_owed, is_owing, covers_count}
 
 within_means : (u v : Used) → is_within u v ≡ true → IsWithin u v
 within_means u v h = let a = and_right (nat_le u.driving v.driving) (nat_le u.duty v.duty && nat_le u.elapsed v.elapsed) h in record {
@@ -32,17 +32,39 @@ berth_from : (k : BerthRule) (w v : WaitingRest) → IsBerthNoWorse k w v → is
 berth_from SevenInOne w v h = is_upto (min v.berth US_PAIR_BERTH) w.berth h
 berth_from AllOfNext w v h = refl
 
-wait_means : (rule : SplitRule) (w v : Option WaitingRest) (base last : Used) → is_wait_no_worse rule w v base last ≡ true → IsWaitNoWorse rule w v base last
-wait_means rule None None base last h = tt
-wait_means rule None (Some v) base last h = within_means base last h
-wait_means rule (Some w) None base last h = absurd (let z : false ≡ true = h in cc)
-wait_means rule (Some w) (Some v) base last h = (upto (serving rule v.long) w.long (and_left (nat_le (serving rule v.long) w.long) (is_berth_no_worse rule.berth w v) h), berth_means rule.berth w v (and_right (nat_le (serving rule v.long) w.long) (is_berth_no_worse rule.berth w v) h))
+ready_means : (k : BerthRule) (w : Option WaitingRest) (r : OpenRun) → is_ready k w r ≡ true → IsReady k w r
+ready_means k None r h = tt
+ready_means k (Some w) r h = elim (or_cases (nat_eq r.stretch r.long) (has_pair_berth k w r) h) [ inl e ↦ inl (same r.stretch r.long e) | inr t ↦ inr t ]
 
-wait_from : (rule : SplitRule) (w v : Option WaitingRest) (base last : Used) → IsWaitNoWorse rule w v base last → is_wait_no_worse rule w v base last ≡ true
-wait_from rule None None base last h = refl
-wait_from rule None (Some v) base last h = within_from base last h
-wait_from rule (Some w) None base last h = absurd h
-wait_from rule (Some w) (Some v) base last h = and_both (nat_le (serving rule v.long) w.long) (is_berth_no_worse rule.berth w v) (is_upto (serving rule v.long) w.long h.0) (berth_from rule.berth w v h.1)
+ready_from : (k : BerthRule) (w : Option WaitingRest) (r : OpenRun) → IsReady k w r → is_ready k w r ≡ true
+ready_from k None r h = refl
+ready_from k (Some w) r (inl e) = or_left (nat_eq r.stretch r.long) (has_pair_berth k w r) (is_same r.stretch r.long e)
+ready_from k (Some w) r (inr t) = or_right (nat_eq r.stretch r.long) (has_pair_berth k w r) t
+
+enough_means : (k : BerthRule) (w : WaitingRest) → is_berth_enough k w ≡ true → IsBerthEnough k w
+enough_means SevenInOne w h = upto US_PAIR_BERTH w.berth h
+enough_means AllOfNext w h = tt
+
+enough_from : (k : BerthRule) (w : WaitingRest) → IsBerthEnough k w → is_berth_enough k w ≡ true
+enough_from SevenInOne w h = is_upto US_PAIR_BERTH w.berth h
+enough_from AllOfNext w h = refl
+
+wait_means : (rule : SplitRule) (r : OpenRun) (w v : Option WaitingRest) (base last : Used) → is_wait_no_worse rule r w v base last ≡ true → IsWaitNoWorse rule r w v base last
+wait_means rule r None None base last h = tt
+wait_means rule r None (Some v) base last h = within_means base last h
+wait_means rule r (Some w) None base last h =
+    let a = and_right (nat_le (enough rule) w.long) (is_berth_enough rule.berth w && is_ready rule.berth (Some w) r) h in (
+      upto (enough rule) w.long (and_left (nat_le (enough rule) w.long) (is_berth_enough rule.berth w && is_ready rule.berth (Some w) r) h),
+      enough_means rule.berth w (and_left (is_berth_enough rule.berth w) (is_ready rule.berth (Some w) r) a),
+      ready_means rule.berth (Some w) r (and_right (is_berth_enough rule.berth w) (is_ready rule.berth (Some w) r) a),
+    )
+wait_means rule r (Some w) (Some v) base last h = (upto (serving rule v.long) w.long (and_left (nat_le (serving rule v.long) w.long) (is_berth_no_worse rule.berth w v) h), berth_means rule.berth w v (and_right (nat_le (serving rule v.long) w.long) (is_berth_no_worse rule.berth w v) h))
+
+wait_from : (rule : SplitRule) (r : OpenRun) (w v : Option WaitingRest) (base last : Used) → IsWaitNoWorse rule r w v base last → is_wait_no_worse rule r w v base last ≡ true
+wait_from rule r None None base last h = refl
+wait_from rule r None (Some v) base last h = within_from base last h
+wait_from rule r (Some w) None base last h = and_both (nat_le (enough rule) w.long) (is_berth_enough rule.berth w && is_ready rule.berth (Some w) r) (is_upto (enough rule) w.long h.0) (and_both (is_berth_enough rule.berth w) (is_ready rule.berth (Some w) r) (enough_from rule.berth w h.1) (ready_from rule.berth (Some w) r h.2))
+wait_from rule r (Some w) (Some v) base last h = and_both (nat_le (serving rule v.long) w.long) (is_berth_no_worse rule.berth w v) (is_upto (serving rule v.long) w.long h.0) (berth_from rule.berth w v h.1)
 
 deep_means : (k : BerthRule) (r q : OpenRun) → is_deep k r q ≡ true → IsDeep k r q
 deep_means SevenInOne r q h = (upto (min q.stretch US_PAIR_BERTH) r.stretch (and_left (nat_le (min q.stretch US_PAIR_BERTH) r.stretch) (nat_le (min q.longest US_PAIR_BERTH) r.longest) h), upto (min q.longest US_PAIR_BERTH) r.longest (and_right (nat_le (min q.stretch US_PAIR_BERTH) r.stretch) (nat_le (min q.longest US_PAIR_BERTH) r.longest) h))
@@ -56,22 +78,13 @@ deep_from SevenInOne r q h = and_both (nat_le (min q.stretch US_PAIR_BERTH) r.st
 deep_from AllOfNext r q (inl e) = or_left (nat_eq r.stretch r.long) (nat_eq r.long q.long && nat_eq r.stretch q.stretch) (is_same r.stretch r.long e)
 deep_from AllOfNext r q (inr e) = or_right (nat_eq r.stretch r.long) (nat_eq r.long q.long && nat_eq r.stretch q.stretch) (and_both (nat_eq r.long q.long) (nat_eq r.stretch q.stretch) (is_same r.long q.long e.0) (is_same r.stretch q.stretch e.1))
 
-ready_means : (k : BerthRule) (w : Option WaitingRest) (r : OpenRun) → is_ready k w r ≡ true → IsReady k w r
-ready_means k None r h = tt
-ready_means k (Some w) r h = elim (or_cases (nat_eq r.stretch r.long) (has_pair_berth k w r) h) [ inl e ↦ inl (same r.stretch r.long e) | inr t ↦ inr t ]
-
-ready_from : (k : BerthRule) (w : Option WaitingRest) (r : OpenRun) → IsReady k w r → is_ready k w r ≡ true
-ready_from k None r h = refl
-ready_from k (Some w) r (inl e) = or_left (nat_eq r.stretch r.long) (has_pair_berth k w r) (is_same r.stretch r.long e)
-ready_from k (Some w) r (inr t) = or_right (nat_eq r.stretch r.long) (has_pair_berth k w r) t
-
 not_means : (b : Bool) → not b ≡ true → b ≡ false
 not_means true h = absurd (let z : false ≡ true = h in cc)
 not_means false h = refl
 
 no_worse_means : (rule : SplitRule) (may : Bool) (a b : SplitCount) → is_no_worse rule may a b ≡ true → IsNoWorse rule may a b
 no_worse_means rule may a b h =
-    let w : Bool = is_wait_no_worse rule a.waiting b.waiting a.base b.last in
+    let w : Bool = is_wait_no_worse rule a.run a.waiting b.waiting a.base b.last in
     let d : Bool = is_deep rule.berth a.run b.run || (not may && waits_none a.waiting) in
     let k : Bool = nat_eq a.run.long b.run.long || is_ready rule.berth a.waiting a.run in
     let h1 = and_right (nat_le b.run.long a.run.long) (d && (k && (is_within a.base b.base && (is_within a.last b.last && w)))) h in
@@ -90,12 +103,12 @@ no_worse_means rule may a b h =
       ];
       less_base = within_means a.base b.base (and_left (is_within a.base b.base) (is_within a.last b.last && w) h3);
       less_last = within_means a.last b.last (and_left (is_within a.last b.last) w h4);
-      waiting = wait_means rule a.waiting b.waiting a.base b.last (and_right (is_within a.last b.last) w h4);
+      waiting = wait_means rule a.run a.waiting b.waiting a.base b.last (and_right (is_within a.last b.last) w h4);
     }
 
 no_worse_from : (rule : SplitRule) (may : Bool) (a b : SplitCount) → IsNoWorse rule may a b → is_no_worse rule may a b ≡ true
 no_worse_from rule may a b h =
-    let w : Bool = is_wait_no_worse rule a.waiting b.waiting a.base b.last in
+    let w : Bool = is_wait_no_worse rule a.run a.waiting b.waiting a.base b.last in
     let d : Bool = is_deep rule.berth a.run b.run || (not may && waits_none a.waiting) in
     let k : Bool = nat_eq a.run.long b.run.long || is_ready rule.berth a.waiting a.run in
     and_both (nat_le b.run.long a.run.long) (d && (k && (is_within a.base b.base && (is_within a.last b.last && w)))) (is_upto b.run.long a.run.long h.run)
@@ -110,10 +123,14 @@ no_worse_from rule may a b h =
       | inr u ↦ or_right (nat_eq a.run.long b.run.long) (is_ready rule.berth a.waiting a.run) (ready_from rule.berth a.waiting a.run u)
     ])
     (and_both (is_within a.base b.base) (is_within a.last b.last && w) (within_from a.base b.base h.less_base)
-    (and_both (is_within a.last b.last) w (within_from a.last b.last h.less_last) (wait_from rule a.waiting b.waiting a.base b.last h.waiting)))))
+    (and_both (is_within a.last b.last) w (within_from a.last b.last h.less_last) (wait_from rule a.run a.waiting b.waiting a.base b.last h.waiting)))))
 
 owed_means : (rule : SplitRule) (r : OpenRun) (u : Used) (w : Option WaitingRest) (b : SplitCount) → is_owed rule r u w b ≡ true → IsOwed rule r u w b
-owed_means rule r u None b h = absurd (let z : false ≡ true = h in cc)
+owed_means rule r u None b h = let a = and_right (nat_le (enough rule + b.run.long) r.long) (is_berth_enough rule.berth (as_waiting r) && is_within u b.base) h in (
+  upto (enough rule + b.run.long) r.long (and_left (nat_le (enough rule + b.run.long) r.long) (is_berth_enough rule.berth (as_waiting r) && is_within u b.base) h),
+  enough_means rule.berth (as_waiting r) (and_left (is_berth_enough rule.berth (as_waiting r)) (is_within u b.base) a),
+  within_means u b.base (and_right (is_berth_enough rule.berth (as_waiting r)) (is_within u b.base) a),
+)
 owed_means rule r u (Some v) b h = let a = and_right (nat_le (serving rule v.long + b.run.long) r.long) (is_berth_no_worse rule.berth (as_waiting r) v && is_within u b.base) h in (
   upto (serving rule v.long + b.run.long) r.long (and_left (nat_le (serving rule v.long + b.run.long) r.long) (is_berth_no_worse rule.berth (as_waiting r) v && is_within u b.base) h),
   berth_means rule.berth (as_waiting r) v (and_left (is_berth_no_worse rule.berth (as_waiting r) v) (is_within u b.base) a),
@@ -121,7 +138,8 @@ owed_means rule r u (Some v) b h = let a = and_right (nat_le (serving rule v.lon
 )
 
 owed_from : (rule : SplitRule) (r : OpenRun) (u : Used) (w : Option WaitingRest) (b : SplitCount) → IsOwed rule r u w b → is_owed rule r u w b ≡ true
-owed_from rule r u None b h = absurd h
+owed_from rule r u None b h = and_both (nat_le (enough rule + b.run.long) r.long) (is_berth_enough rule.berth (as_waiting r) && is_within u b.base) (is_upto (enough rule + b.run.long) r.long h.0)
+    (and_both (is_berth_enough rule.berth (as_waiting r)) (is_within u b.base) (enough_from rule.berth (as_waiting r) h.1) (within_from u b.base h.2))
 owed_from rule r u (Some v) b h = and_both (nat_le (serving rule v.long + b.run.long) r.long) (is_berth_no_worse rule.berth (as_waiting r) v && is_within u b.base) (is_upto (serving rule v.long + b.run.long) r.long h.0)
     (and_both (is_berth_no_worse rule.berth (as_waiting r) v) (is_within u b.base) (berth_from rule.berth (as_waiting r) v h.1) (within_from u b.base h.2))
 

@@ -57,21 +57,23 @@ pub record IsMonotone (ok : SplitCount → Bool) : Type 0 where
 
 -- # The relation
 
--- the length of a split rest, as far as it serves: a longer one makes a pair with each rest that may be its second
+-- a split rest of this length makes a pair with each rest that may be its second
+abbrev pub enough : SplitRule → ℕ
+enough rule = rule.pair - rule.least
+
+-- the length of a split rest, as far as it serves
 abbrev pub serving : SplitRule → ℕ → ℕ
-serving rule long = min long (rule.pair - rule.least)
+serving rule long = min long (enough rule)
+
+-- its time in the berth is enough for each pair, or is not asked for
+abbrev pub IsBerthEnough : BerthRule → WaitingRest → Type 0
+IsBerthEnough SevenInOne w = US_PAIR_BERTH ≤ w.berth
+IsBerthEnough AllOfNext w = Unit {0}
 
 -- the time in the berth of the split rest w serves where that of v does
 abbrev pub IsBerthNoWorse : BerthRule → WaitingRest → WaitingRest → Type 0
 IsBerthNoWorse SevenInOne w v = min v.berth US_PAIR_BERTH ≤ w.berth
 IsBerthNoWorse AllOfNext w v = Unit {0}
-
--- the split rests that wait, and what is used: of the first since its base, and of the second since the rest that waits
-abbrev pub IsWaitNoWorse : SplitRule → Option WaitingRest → Option WaitingRest → Used → Used → Type 0
-IsWaitNoWorse rule None None base last = Unit {0}
-IsWaitNoWorse rule None (Some v) base last = IsWithin base last
-IsWaitNoWorse rule (Some w) None base last = ⊥
-IsWaitNoWorse rule (Some w) (Some v) base last = (serving rule v.long ≤ w.long) × IsBerthNoWorse rule.berth w v
 
 -- the time in the berth of the run r serves where that of q does
 abbrev pub IsDeep : BerthRule → OpenRun → OpenRun → Type 0
@@ -83,6 +85,13 @@ abbrev pub IsReady : BerthRule → Option WaitingRest → OpenRun → Type 0
 IsReady k None r = Unit {0}
 IsReady k (Some w) r = (r.stretch ≡ r.long) ⊎ (has_pair_berth k w r ≡ true)
 
+-- The split rests that wait, the run r in progress behind the first one, and what is used: of the first since its base, and of the second since the rest that waits.
+abbrev pub IsWaitNoWorse : SplitRule → OpenRun → Option WaitingRest → Option WaitingRest → Used → Used → Type 0
+IsWaitNoWorse rule r None None base last = Unit {0}
+IsWaitNoWorse rule r None (Some v) base last = IsWithin base last
+IsWaitNoWorse rule r (Some w) None base last = (enough rule ≤ w.long) × IsBerthEnough rule.berth w × IsReady rule.berth (Some w) r
+IsWaitNoWorse rule r (Some w) (Some v) base last = (serving rule v.long ≤ w.long) × IsBerthNoWorse rule.berth w v
+
 -- a is no worse than b, number by number
 pub record IsNoWorse (rule : SplitRule) (may : Bool) (a b : SplitCount) : Type 0 where
   pub run : b.run.long ≤ a.run.long
@@ -92,7 +101,7 @@ pub record IsNoWorse (rule : SplitRule) (may : Bool) (a b : SplitCount) : Type 0
   pub keeps : (a.run.long ≡ b.run.long) ⊎ IsReady rule.berth a.waiting a.run
   pub less_base : IsWithin a.base b.base
   pub less_last : IsWithin a.last b.last
-  pub waiting : IsWaitNoWorse rule a.waiting b.waiting a.base b.last
+  pub waiting : IsWaitNoWorse rule a.run a.waiting b.waiting a.base b.last
 
 -- a's run in progress is a full rest that may end as one
 pub record IsFresher (rule : SplitRule) (a : SplitCount) : Type 0 where
@@ -103,9 +112,9 @@ pub record IsFresher (rule : SplitRule) (a : SplitCount) : Type 0 where
 abbrev pub as_waiting : OpenRun → WaitingRest
 as_waiting r = record { long = r.long; berth = r.longest }
 
--- the run r, as a split rest, is no worse than the one that waits in b and b's run in progress together
+-- The run r, as a split rest, is no worse than the one that waits in b and b's run in progress together. Where none waits in b, it makes a pair with each second rest.
 abbrev pub IsOwed : SplitRule → OpenRun → Used → Option WaitingRest → SplitCount → Type 0
-IsOwed rule r used None b = ⊥
+IsOwed rule r used None b = (enough rule + b.run.long ≤ r.long) × IsBerthEnough rule.berth (as_waiting r) × IsWithin used b.base
 IsOwed rule r used (Some v) b = (serving rule v.long + b.run.long ≤ r.long) × IsBerthNoWorse rule.berth (as_waiting r) v × IsWithin used b.base
 
 -- a's run in progress may still be declared as a split rest, as b's was
@@ -133,32 +142,36 @@ abbrev pub is_berth_no_worse : BerthRule → WaitingRest → WaitingRest → Boo
 is_berth_no_worse SevenInOne w v = nat_le (min v.berth US_PAIR_BERTH) w.berth
 is_berth_no_worse AllOfNext w v = true
 
-abbrev pub is_wait_no_worse : SplitRule → Option WaitingRest → Option WaitingRest → Used → Used → Bool
-is_wait_no_worse rule None None base last = true
-is_wait_no_worse rule None (Some v) base last = is_within base last
-is_wait_no_worse rule (Some w) None base last = false
-is_wait_no_worse rule (Some w) (Some v) base last = nat_le (serving rule v.long) w.long && is_berth_no_worse rule.berth w v
-
-abbrev pub is_deep : BerthRule → OpenRun → OpenRun → Bool
-is_deep SevenInOne r q = nat_le (min q.stretch US_PAIR_BERTH) r.stretch && nat_le (min q.longest US_PAIR_BERTH) r.longest
-is_deep AllOfNext r q = nat_eq r.stretch r.long || (nat_eq r.long q.long && nat_eq r.stretch q.stretch)
+abbrev pub is_berth_enough : BerthRule → WaitingRest → Bool
+is_berth_enough SevenInOne w = nat_le US_PAIR_BERTH w.berth
+is_berth_enough AllOfNext w = true
 
 abbrev pub is_ready : BerthRule → Option WaitingRest → OpenRun → Bool
 is_ready k None r = true
 is_ready k (Some w) r = nat_eq r.stretch r.long || has_pair_berth k w r
+
+abbrev pub is_wait_no_worse : SplitRule → OpenRun → Option WaitingRest → Option WaitingRest → Used → Used → Bool
+is_wait_no_worse rule r None None base last = true
+is_wait_no_worse rule r None (Some v) base last = is_within base last
+is_wait_no_worse rule r (Some w) None base last = nat_le (enough rule) w.long && (is_berth_enough rule.berth w && is_ready rule.berth (Some w) r)
+is_wait_no_worse rule r (Some w) (Some v) base last = nat_le (serving rule v.long) w.long && is_berth_no_worse rule.berth w v
+
+abbrev pub is_deep : BerthRule → OpenRun → OpenRun → Bool
+is_deep SevenInOne r q = nat_le (min q.stretch US_PAIR_BERTH) r.stretch && nat_le (min q.longest US_PAIR_BERTH) r.longest
+is_deep AllOfNext r q = nat_eq r.stretch r.long || (nat_eq r.long q.long && nat_eq r.stretch q.stretch)
 
 abbrev pub is_no_worse : SplitRule → Bool → SplitCount → SplitCount → Bool
 is_no_worse rule may a b =
     nat_le b.run.long a.run.long
     && ((is_deep rule.berth a.run b.run || (not may && waits_none a.waiting))
     && ((nat_eq a.run.long b.run.long || is_ready rule.berth a.waiting a.run)
-    && (is_within a.base b.base && (is_within a.last b.last && is_wait_no_worse rule a.waiting b.waiting a.base b.last))))
+    && (is_within a.base b.base && (is_within a.last b.last && is_wait_no_worse rule a.run a.waiting b.waiting a.base b.last))))
 
 abbrev pub is_fresher : SplitRule → SplitCount → Bool
 is_fresher rule a = nat_le rule.full a.run.long && may_pair rule a.waiting a.run
 
 abbrev pub is_owed : SplitRule → OpenRun → Used → Option WaitingRest → SplitCount → Bool
-is_owed rule r used None b = false
+is_owed rule r used None b = nat_le (enough rule + b.run.long) r.long && (is_berth_enough rule.berth (as_waiting r) && is_within used b.base)
 is_owed rule r used (Some v) b = nat_le (serving rule v.long + b.run.long) r.long && (is_berth_no_worse rule.berth (as_waiting r) v && is_within used b.base)
 
 abbrev pub is_owing : SplitRule → Bool → SplitCount → SplitCount → Bool

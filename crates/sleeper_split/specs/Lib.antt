@@ -14,3 +14,4 @@ pub mod Covers
 pub mod CoverLaws
 pub mod CoverTests
 pub mod BetterLaws
+pub mod Runs

@@ -1,6 +1,7 @@
 //! What is counted of a history for full rests, split rests and pairs.
 ghost use Rattle.std.specs.Prelude.{◌≡◌, ◌<◌, ◌≤◌, ◌↔◌, true, IsNone, IsSome, IfSome};
 ghost use Rattle.sleeper_split.specs.Covers.{is_within};
+ghost use Rattle.sleeper_split.specs.Runs.{repeated, more, longer_run, rested_run, worked_run};
 ghost use Rattle.sleeper_split.specs.Machine.{IsSplitCount, IsOpenRun, IsUsed, IsWithin, IsWaitingRest, IsNoSplit, IsNoFull, fresh_count, made, after_rest, after_duty, end_undeclared, end_split, end_full, used_of, run_of, may_pair, longer, rested, worked, one_more, has_split_berth, has_pair_berth};
 
 use crate::rule::{BerthRule, SplitRule};
@@ -120,6 +121,40 @@ impl SplitCount {
             run: self.run.longer(berth),
             base: self.base.rested(),
             last: self.last.rested(),
+            waiting: self.waiting,
+        }
+    }
+
+    /// After `n` more minutes of duty, at least one, driving or not: what `n` calls of `duty` give.
+    #[tactic(auto, using(crate::specs::Runs::works_at_once))]
+    pub fn duty_run(self, driving: bool, n: u32) -> SplitCount
+        requires good { IsSplitCount self }
+        requires none { run_of self ≡ 0 }
+        requires some { 1 ≤ n }
+        ensures counts { result ≡ repeated (after_duty driving) n self }
+        ensures kept { IsSplitCount result }
+    {
+        SplitCount {
+            run: OpenRun::NONE,
+            base: self.base.worked_run(driving, n),
+            last: self.last.worked_run(driving, n),
+            waiting: self.waiting,
+        }
+    }
+
+    /// After `n` more minutes of rest, at least one, in the berth or not: what `n` calls of `rest`
+    /// give.
+    #[tactic(auto, using(crate::specs::Runs::rests_at_once))]
+    pub fn rest_run(self, berth: bool, n: u32) -> SplitCount
+        requires good { IsSplitCount self }
+        requires some { 1 ≤ n }
+        ensures counts { result ≡ repeated (after_rest berth) n self }
+        ensures kept { IsSplitCount result }
+    {
+        SplitCount {
+            run: self.run.longer_run(berth, n),
+            base: self.base.rested_run(n),
+            last: self.last.rested_run(n),
             waiting: self.waiting,
         }
     }
@@ -274,6 +309,19 @@ impl OpenRun {
         }
     }
 
+    /// So many more minutes of rest, in the berth or not.
+    fn longer_run(self, berth: bool, n: u32) -> OpenRun
+        requires { IsOpenRun self }
+        ensures { result ≡ longer_run berth n self }
+    {
+        let stretch = if berth { more(n, self.stretch) } else { 0 };
+        OpenRun {
+            long: more(n, self.long),
+            stretch,
+            longest: self.longest.max(stretch),
+        }
+    }
+
     /// Whether the time in the berth serves for a split rest.
     pub(crate) fn may_wait(self, berth: BerthRule) -> bool
         ensures { result ≡ has_split_berth berth self }
@@ -330,6 +378,33 @@ impl Used {
         }
     }
 
+    /// So many more minutes of rest.
+    fn rested_run(self, n: u32) -> Used
+        requires { IsUsed self }
+        ensures { result ≡ rested_run n self }
+    {
+        Used {
+            elapsed: more(n, self.elapsed),
+            ..self
+        }
+    }
+
+    /// So many more minutes of duty, driving or not.
+    fn worked_run(self, drive: bool, n: u32) -> Used
+        requires { IsUsed self }
+        ensures { result ≡ worked_run drive n self }
+    {
+        Used {
+            driving: if drive {
+                more(n, self.driving)
+            } else {
+                self.driving
+            },
+            duty: more(n, self.duty),
+            elapsed: more(n, self.elapsed),
+        }
+    }
+
     /// Whether counts from one place have these numbers.
     fn is_kept(self) -> bool
         ensures { (result ≡ true) ↔ IsUsed self }
@@ -352,6 +427,14 @@ fn one_more(count: u32) -> u32
     ensures { result ≡ one_more count }
 {
     (count + 1).min(COUNT_LIMIT)
+}
+
+/// So many more, up to the greatest count.
+fn more(n: u32, count: u32) -> u32
+    requires { count ≤ COUNT_LIMIT }
+    ensures { result ≡ more n count }
+{
+    count.saturating_add(n).min(COUNT_LIMIT)
 }
 
 /// Whether a split rest that waits has these numbers, if there is one.

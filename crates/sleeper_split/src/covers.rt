@@ -1,7 +1,7 @@
 //! Which counts may stand for others, whatever comes next, and when resting is safe.
-ghost use Rattle.std.specs.Prelude.{◌≡◌, ◌↔◌, ◌≤◌, true};
+ghost use Rattle.std.specs.Prelude.{nat_le, ◌&&◌, ◌≡◌, ◌↔◌, ◌≤◌, true};
 ghost use Rattle.sleeper_split.specs.Machine.{IsSplitCount, IsOpenRun, IsUsed, run_of, may_pair, has_split_berth, without_run};
-ghost use Rattle.sleeper_split.specs.Covers.{IsCountOf, Covers, covers_count, is_fresher, is_no_worse, is_owing, is_owed, is_deep, is_within, is_wait_no_worse, is_berth_no_worse, is_ahead, is_free, is_ready, serving, waits_none};
+ghost use Rattle.sleeper_split.specs.Covers.{IsCountOf, Covers, covers_count, is_fresher, is_no_worse, is_owing, is_owed, is_deep, is_within, is_wait_no_worse, is_berth_no_worse, is_ahead, is_free, is_ready, enough, is_berth_enough, serving, waits_none};
 
 use crate::count::{OpenRun, SplitCount, Used, WaitingRest};
 use crate::rule::{BerthRule, SplitRule};
@@ -97,12 +97,12 @@ impl SplitCount {
 
     /// Whether the split rest that waits is no worse than that of `other`.
     fn waits_no_worse(self, other: SplitCount, rule: SplitRule) -> bool
-        ensures { result ≡ is_wait_no_worse rule self.waiting other.waiting self.base other.last }
+        ensures { result ≡ is_wait_no_worse rule self.run self.waiting other.waiting self.base other.last }
     {
         match (self.waiting(), other.waiting()) {
             (None, None) => true,
             (None, Some(_)) => self.base().is_within(other.last()),
-            (Some(_), None) => false,
+            (Some(rest), None) => rest.is_enough(rule) && self.is_ready(rule.berth),
             (Some(rest), Some(than)) => {
                 rule.serving(than.long) <= rest.long && rest.serves(than, rule.berth)
             }
@@ -132,32 +132,39 @@ impl SplitCount {
     {
         let run = self.run();
         let last = self.last();
-        match other.waiting() {
-            None => false,
+        let used = Used {
+            elapsed: last.elapsed - run.long,
+            ..last
+        };
+        let as_rest = WaitingRest {
+            long: run.long,
+            berth: run.longest,
+        };
+        let serves = match other.waiting() {
+            None => rule.enough().saturating_add(other.run().long) <= run.long
+                && as_rest.has_enough_berth(rule.berth),
             Some(rest) => {
-                let used = Used {
-                    elapsed: last.elapsed - run.long,
-                    ..last
-                };
-                let as_rest = WaitingRest {
-                    long: run.long,
-                    berth: run.longest,
-                };
                 rule.serving(rest.long).saturating_add(other.run().long) <= run.long
                     && as_rest.serves(rest, rule.berth)
-                    && used.is_within(other.base())
             }
-        }
+        };
+        serves && used.is_within(other.base())
     }
 }
 
 impl SplitRule {
-    /// The length of a split rest, as far as it serves: a longer one makes a pair with each rest
-    /// that may be its second.
+    /// The length of a split rest, as far as it serves.
     fn serving(self, long: u32) -> u32
         ensures { result ≡ serving self long }
     {
-        long.min(self.pair.saturating_sub(self.least))
+        long.min(self.enough())
+    }
+
+    /// The length of a split rest that makes a pair with each rest that may be its second.
+    fn enough(self) -> u32
+        ensures { result ≡ enough self }
+    {
+        self.pair.saturating_sub(self.least)
     }
 }
 
@@ -180,6 +187,23 @@ impl OpenRun {
 }
 
 impl WaitingRest {
+    /// Whether the rest makes a pair with each rest that may be its second.
+    fn is_enough(self, rule: SplitRule) -> bool
+        ensures { result ≡ (nat_le (enough rule) self.long && is_berth_enough rule.berth self) }
+    {
+        rule.enough() <= self.long && self.has_enough_berth(rule.berth)
+    }
+
+    /// Whether its time in the berth is enough for each pair, or is not asked for.
+    fn has_enough_berth(self, berth: BerthRule) -> bool
+        ensures { result ≡ is_berth_enough berth self }
+    {
+        match berth {
+            BerthRule::SevenInOne => US_PAIR_BERTH <= self.berth,
+            BerthRule::AllOfNext => true,
+        }
+    }
+
     /// Whether the time in the berth serves where that of `other` does.
     fn serves(self, other: WaitingRest, berth: BerthRule) -> bool
         ensures { result ≡ is_berth_no_worse berth self other }

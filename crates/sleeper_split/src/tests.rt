@@ -242,6 +242,26 @@ fn keeps_the_longest_stretch_in_the_berth(rt: HostRuntime) -> Result<(), Fail> {
 }
 
 #[test]
+fn takes_many_units_at_once(rt: HostRuntime) -> Result<(), Fail> {
+    let Some(base) = SplitCount::fresh().end_full(SplitRule::US) else {
+        return Err(Fail::from("no such end"));
+    };
+    let day = base
+        .duty_run(true, 60)
+        .duty_run(false, 30)
+        .rest_run(true, 300);
+    assert_eq!(rt; spent(day), (60, 90, 390));
+    let run = day.rest_run(false, 10).rest_run(true, 20).run();
+    assert_eq!(rt; (run.long, run.stretch, run.longest), (330, 20, 300));
+    let long = day.rest_run(false, 4_000_000_000);
+    assert_eq!(rt;
+        (long.run().long, long.used(Since::Elapsed)),
+        (999_999, 999_999)
+    );
+    Ok(())
+}
+
+#[test]
 fn reads_back_its_parts(rt: HostRuntime) {
     let count = SplitCount::fresh().rest(true);
     let parts = SplitCount::of_parts(count.run(), count.base(), count.last(), count.waiting());
@@ -325,11 +345,29 @@ fn stands_for_what_is_worse(rt: HostRuntime) {
     );
     assert!(rt; !stands(waits, waits_longer), "for a longer one");
     assert!(rt;
+        stands(worn(300, rest(480)), worn(300, rest(599))),
+        "any second rest is enough"
+    );
+    assert!(rt;
+        !stands(worn(300, rest(479)), worn(300, rest(480))),
+        "two hours may be too short"
+    );
+    assert!(rt;
         stands(resting(600, 600, rest(180)), fit),
         "a full rest for all"
     );
     assert!(rt; stands(resting(600, 0, None), fit), "a full rest for all");
-    assert!(rt; !stands(resting(599, 599, None), fit), "no full rest yet");
+    assert!(rt; !stands(resting(599, 0, None), fit), "no full rest yet");
+    assert!(rt;
+        stands(resting(480, 480, None), fit),
+        "it may be split, and owe two hours"
+    );
+    assert!(rt; !stands(resting(479, 479, None), fit), "it would owe more");
+    assert!(rt;
+        stands(worn(300, rest(480)), fit),
+        "it owes two hours, as each split rest has"
+    );
+    assert!(rt; !stands(worn(300, rest(479)), fit), "it owes more");
 }
 
 #[test]
