@@ -39,7 +39,7 @@ use Rattle.label_search.specs.declared.by_layers.Searched.TheVariants.{Found, Ne
 use Rattle.label_search.specs.Sound.{IsSound, IsOutdone, IsIdle, IsWorked, HasLabels}
 use Rattle.label_search.specs.Searched.{HasSolution, IsFound, IsNever, IsSpent, IsAnswer, IsWithin, layers_of}
 use Rattle.label_search.specs.Searching.{IsRootState, IsFinishedAt, IsSolved, IsLimit, ended_by}
-use Rattle.label_search.proofs.SoundLaws.{IsWay, IsGrownFromRoot, sound_way, sound_labels}
+use Rattle.label_search.proofs.SoundLaws.{IsGrownFromRoot, sound_way, sound_labels}
 use Rattle.label_search.proofs.SearchLaws.{IsSearching, searched_covers}
 use Rattle.label_search.proofs.Places.{one_of_place}
 

@@ -6,3 +6,4 @@ pub mod FillLaws
 pub mod SoundLaws
 pub mod SearchLaws
 pub mod AnswerLaws
+pub mod GuessLaws

@@ -24,18 +24,9 @@ use Rattle.label_state.specs.Layers.{labels_of, label_layers, label_count}
 use Rattle.label_state.specs.LayerLaws.{layer_labels, label_kept}
 use Rattle.label_state.specs.Path.{parent_of, acts_of, marks_of, kept_at, root_of, path_of, way_marks}
 use Rattle.label_search.specs.Sound.{IsFirst, GrewFrom, IsSound, IsReachable, AreDistinct, HasLabels}
+use Rattle.label_search.specs.Ways.{IsWay}
 use Rattle.label_search.proofs.Places.{one_of_place, place_of_one}
 use Rattle.std.proofs.lemmas.List.Sums.{sum_by-cons}
-
--- The activities are a way through the problem from this root that chooses these marks and gives this label at this step.
-pub record IsWay {S : Type 0} (problem : Problem S) (allowed : Activity → Bool) (starts : S → Type 0) (root : S) (step : ℕ) (xs : List Activity) (marks : List Mark) (l : Label S) : Type 0 where
-  pub start : starts root
-  pub long : length xs ≡ step
-  pub goes : IsAllowedFrom problem allowed 0 0 xs
-  pub path : Reaches 1 problem.nexts root 0 xs marks l.state
-  pub progress : l.progress ≡ done_after 0 xs
-  pub depart : l.depart ≡ depart_from 0 xs
-  pub reachable : IsReachable problem starts step l
 
 -- one more step of a way
 allowed_more : {S : Type 0} (problem : Problem S) (allowed : Activity → Bool) (k p : ℕ) (xs : List Activity) (x : Activity) → IsAllowedFrom problem allowed k p xs →

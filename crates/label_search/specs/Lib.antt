@@ -1,3 +1,4 @@
 pub mod Sound
 pub mod Searched
 pub mod Searching
+pub mod Ways

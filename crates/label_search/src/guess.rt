@@ -1,18 +1,294 @@
-//! A first guess at the shortest duration.
-ghost use Rattle.std.specs.Prelude.{◌≡◌, ℕ, ◌^◌, ◌<◌, length, IfOk};
+//! A first guess at the shortest duration: a quick search that keeps a few labels of each step, and
+//! proves that a solution takes no more than what it finds.
+ghost use Rattle.std.specs.Prelude.{◌≡◌, ℕ, ◌+◌, ◌^◌, ◌<◌, ◌≤◌, List, length, IfOk, OnOk};
 ghost use Rattle.duty_core.specs.Params.{allows};
 ghost use Rattle.rule_core.specs.Replay.{AreRootStates};
+ghost use Rattle.tour_model.specs.declared.limits.TheConstants.{STEP_LIMIT};
 ghost use Rattle.tour_model.specs.Tour.{IsTour};
-ghost use Rattle.cert_text.specs.Planning.{problem_of};
+ghost use Rattle.tour_model.specs.Word.{word_length};
+ghost use Rattle.cert_text.specs.Planning.{problem_of, state_at};
+ghost use Rattle.label_dominance.specs.Offers.{AreStatesAt};
 ghost use Rattle.label_search.specs.Searching.{IsRootState, IsLimit};
+ghost use Rattle.label_search.specs.Ways.{IsReached, AreReached, AreRankedReached, IsGuess, IsLessOf, IsLeastOf, ArePartsOf};
 
+use crate::gather::is_worth_keeping;
 use duty_core::NoMemory;
+use label_dominance::better;
+use label_extend::successors;
+use label_state::Label;
 use rule_core::{Root, RuleBook};
 use std::alloc::Global;
-use tour_model::Tour;
+use tour_model::{STEP_LIMIT, Tour};
+
+/// The most labels that the guess keeps of a step.
+const BEAM: usize = 100;
+
+/// How many labels the guess may grow for each label of the search's budget.
+const WORK: u32 = 10;
+
+/// A label, and the step at which it would end with no rules.
+#[derive(Drop)]
+struct Ranked<S> {
+    ends: u32,
+    label: Label<S>,
+}
+
+/// The least duration found so far, and how many labels may still be grown.
+#[derive(Clone, Copy)]
+struct Guess {
+    best: Option<u32>,
+    work: usize,
+}
+
+/// The labels of the roots.
+fn root_beam<B: RuleBook>(
+    alloc: Global,
+    book: &B,
+    tour: &Tour,
+    roots: &[Root<B::State>],
+) -> Result<Vec<Label<B::State>>, NoMemory>
+    requires roots { AreRootStates (B.is_state_at book.now) tour.now.start roots.now }
+    ensures { IfOk result (λ beam. AreReached (problem_of tour.now (B.advances_of book.now) (B.covering book.now) (B.idles_of book.now)) (state_at tour.now (B.is_state_at book.now))
+        (allows tour.now.params) (IsRootState roots.now) 0 beam.items) }
+{
+    let _ = tour;
+    let mut beam = Vec::new(alloc);
+    for root in roots {
+        beam.push(Label {
+            depart: None,
+            progress: 0,
+            state: book.copy(&root.state)?,
+        })?;
+    }
+    Ok(beam)
+}
+
+/// Adds the successors of a label that may still take less than the best.
+fn grow_label<B: RuleBook>(
+    alloc: Global,
+    book: &B,
+    tour: &Tour,
+    roots: &[Root<B::State>],
+    best: Option<u32>,
+    step: u32,
+    label: &Label<B::State>,
+    list: &mut Vec<Ranked<B::State>>,
+) -> Result<(), NoMemory>
+    requires tour { IsTour tour.now }
+    requires params { B.params_of book.now ≡ tour.now.params }
+    requires roots { AreRootStates (B.is_state_at book.now) tour.now.start roots.now }
+    requires label { IsReached (problem_of tour.now (B.advances_of book.now) (B.covering book.now) (B.idles_of book.now)) (state_at tour.now (B.is_state_at book.now))
+        (allows tour.now.params) (IsRootState roots.now) step label.now }
+    requires list { AreRankedReached (problem_of tour.now (B.advances_of book.now) (B.covering book.now) (B.idles_of book.now)) (state_at tour.now (B.is_state_at book.now))
+        (allows tour.now.params) (IsRootState roots.now) (step + 1) list.old.items }
+    requires step { step + 1 < STEP_LIMIT }
+    ensures ok { OnOk result (AreRankedReached (problem_of tour.now (B.advances_of book.now) (B.covering book.now) (B.idles_of book.now)) (state_at tour.now (B.is_state_at book.now))
+        (allows tour.now.params) (IsRootState roots.now) (step + 1) list.new.items) }
+{
+    let _ = roots;
+    for grown in successors(alloc, book, tour, label, step)?.into_vec() {
+        let label = grown.label;
+        let eta = tour.eta(step + 1, label.progress);
+        if is_worth_keeping(best, label.depart, eta) {
+            list.push(Ranked {
+                ends: eta.unwrap_or(0),
+                label,
+            })?;
+        }
+    }
+    Ok(())
+}
+
+/// The successors of the labels that may still take less than the best.
+fn grow_beam<B: RuleBook>(
+    alloc: Global,
+    book: &B,
+    tour: &Tour,
+    roots: &[Root<B::State>],
+    best: Option<u32>,
+    step: u32,
+    beam: &[Label<B::State>],
+) -> Result<Vec<Ranked<B::State>>, NoMemory>
+    requires tour { IsTour tour.now }
+    requires params { B.params_of book.now ≡ tour.now.params }
+    requires roots { AreRootStates (B.is_state_at book.now) tour.now.start roots.now }
+    requires beam { AreReached (problem_of tour.now (B.advances_of book.now) (B.covering book.now) (B.idles_of book.now)) (state_at tour.now (B.is_state_at book.now))
+        (allows tour.now.params) (IsRootState roots.now) step beam.now }
+    requires step { step + 1 < STEP_LIMIT }
+    ensures { IfOk result (λ list. AreRankedReached (problem_of tour.now (B.advances_of book.now) (B.covering book.now) (B.idles_of book.now)) (state_at tour.now (B.is_state_at book.now))
+        (allows tour.now.params) (IsRootState roots.now) (step + 1) list.items) }
+{
+    let mut list = Vec::new(alloc);
+    for label in beam {
+        grow_label(alloc, book, tour, roots, best, step, label, &mut list)?;
+    }
+    Ok(list)
+}
+
+/// Whether one of the labels is better than this one.
+fn is_covered<B: RuleBook>(
+    book: &B,
+    tour: &Tour,
+    beam: &[Label<B::State>],
+    label: &Label<B::State>,
+    step: u32,
+) -> bool
+    requires tour { IsTour tour.now }
+    requires params { B.params_of book.now ≡ tour.now.params }
+    requires beam { AreStatesAt (state_at tour.now (B.is_state_at book.now)) step beam.now }
+    requires label { state_at tour.now (B.is_state_at book.now) label.now.state step }
+    requires step { step < STEP_LIMIT }
+{
+    for other in beam {
+        if better(book, tour, other, label, step) {
+            return true;
+        }
+    }
+    false
+}
+
+/// The labels that would end first, none of which is better than another, and not too many.
+fn thinned<B: RuleBook>(
+    alloc: Global,
+    book: &B,
+    tour: &Tour,
+    roots: &[Root<B::State>],
+    step: u32,
+    list: Vec<Ranked<B::State>>,
+) -> Result<Vec<Label<B::State>>, NoMemory>
+    requires tour { IsTour tour.now }
+    requires params { B.params_of book.now ≡ tour.now.params }
+    requires list { AreRankedReached (problem_of tour.now (B.advances_of book.now) (B.covering book.now) (B.idles_of book.now)) (state_at tour.now (B.is_state_at book.now))
+        (allows tour.now.params) (IsRootState roots.now) step list.items }
+    requires step { step < STEP_LIMIT }
+    ensures { IfOk result (λ beam. AreReached (problem_of tour.now (B.advances_of book.now) (B.covering book.now) (B.idles_of book.now)) (state_at tour.now (B.is_state_at book.now))
+        (allows tour.now.params) (IsRootState roots.now) step beam.items) }
+{
+    let _ = roots;
+    let mut list = list;
+    list.sort_by_key(|ranked| ranked.ends)?;
+    let mut beam = Vec::new(alloc);
+    for ranked in list {
+        let label = ranked.label;
+        if beam.len() < BEAM && !is_covered(book, tour, &beam, &label, step) {
+            beam.push(label)?;
+        }
+    }
+    Ok(beam)
+}
+
+/// The less of the best and the duration of this label, where it is finished.
+fn less_of<S>(goal: u32, label: &Label<S>, step: u32, best: Option<u32>) -> Option<u32>
+    ensures { IsLessOf goal label.now step best result }
+{
+    if label.progress != goal {
+        return best;
+    }
+    let takes = step.saturating_sub(label.depart.unwrap_or(0));
+    if best.is_some_and(|best| best <= takes) {
+        return best;
+    }
+    Some(takes)
+}
+
+/// The least of the best and the durations of the finished labels.
+fn best_finished<S>(goal: u32, beam: &[Label<S>], step: u32, best: Option<u32>) -> Option<u32>
+    ensures { IsLeastOf goal beam.now step best result }
+{
+    let mut least = best;
+    for label in beam {
+        least = less_of(goal, label, step, least);
+    }
+    least
+}
+
+/// Follows the labels of this step to their ends, and keeps the best.
+fn follow<B: RuleBook>(
+    alloc: Global,
+    book: &B,
+    tour: &Tour,
+    roots: &[Root<B::State>],
+    departed: Vec<Label<B::State>>,
+    first: u32,
+    guess: Guess,
+) -> Result<Guess, NoMemory>
+    requires tour { IsTour tour.now }
+    requires params { B.params_of book.now ≡ tour.now.params }
+    requires roots { AreRootStates (B.is_state_at book.now) tour.now.start roots.now }
+    requires departed { AreReached (problem_of tour.now (B.advances_of book.now) (B.covering book.now) (B.idles_of book.now)) (state_at tour.now (B.is_state_at book.now))
+        (allows tour.now.params) (IsRootState roots.now) first departed.items }
+    requires guess { IsGuess (problem_of tour.now (B.advances_of book.now) (B.covering book.now) (B.idles_of book.now)) (allows tour.now.params) (IsRootState roots.now) guess.best }
+    requires first { first < STEP_LIMIT }
+    ensures { IfOk result (λ found. IsGuess (problem_of tour.now (B.advances_of book.now) (B.covering book.now) (B.idles_of book.now)) (allows tour.now.params) (IsRootState roots.now) found.best) }
+{
+    let goal = tour.word_len();
+    let mut guess = guess;
+    let mut beam = departed;
+    let mut step = first;
+    while step + 1 < STEP_LIMIT && !beam.is_empty() && guess.work > 0 {
+        guess = Guess {
+            best: best_finished(goal, &beam, step, guess.best),
+            work: guess.work.saturating_sub(beam.len()),
+        };
+        let grown = grow_beam(alloc, book, tour, roots, guess.best, step, &beam)?;
+        step += 1;
+        beam = thinned(alloc, book, tour, roots, step, grown)?;
+    }
+    Ok(guess)
+}
+
+/// The labels that have departed, and the others.
+#[derive(Drop)]
+struct Parted<S> {
+    departed: Vec<Label<S>>,
+    waiting: Vec<Label<S>>,
+}
+
+/// Parts the labels by whether they have departed.
+fn part_by_departure<S: Drop>(alloc: Global, beam: Vec<Label<S>>) -> Result<Parted<S>, NoMemory>
+    ensures { IfOk result (λ parts. ArePartsOf beam.items parts.departed.items parts.waiting.items) }
+{
+    let mut departed = Vec::new(alloc);
+    let mut waiting = Vec::new(alloc);
+    for label in beam {
+        if label.depart.is_some() {
+            departed.push(label)?;
+        } else {
+            waiting.push(label)?;
+        }
+    }
+    Ok(Parted { departed, waiting })
+}
+
+/// The duration of some solution, where a quick search finds one.
+fn guessed<B: RuleBook>(
+    alloc: Global,
+    book: &B,
+    tour: &Tour,
+    roots: &[Root<B::State>],
+    work: usize,
+) -> Result<Guess, NoMemory>
+    requires tour { IsTour tour.now }
+    requires params { B.params_of book.now ≡ tour.now.params }
+    requires roots { AreRootStates (B.is_state_at book.now) tour.now.start roots.now }
+    ensures { IfOk result (λ found. IsGuess (problem_of tour.now (B.advances_of book.now) (B.covering book.now) (B.idles_of book.now)) (allows tour.now.params) (IsRootState roots.now) found.best) }
+{
+    let mut guess = Guess { best: None, work };
+    let mut waiting = root_beam(alloc, book, tour, roots)?;
+    let mut step = 0;
+    while step + 1 < STEP_LIMIT && !waiting.is_empty() && guess.work > 0 {
+        let grown = grow_beam(alloc, book, tour, roots, guess.best, step, &waiting)?;
+        step += 1;
+        let beam = thinned(alloc, book, tour, roots, step, grown)?;
+        let parts = part_by_departure(alloc, beam)?;
+        guess = follow(alloc, book, tour, roots, parts.departed, step, guess)?;
+        waiting = parts.waiting;
+    }
+    Ok(guess)
+}
 
 /// A number of steps that some solution stays below, where a quick search finds one; None where it
-/// finds none.
+/// finds none. It grows at most ten labels for each label of the budget, and those of one step more.
 pub fn first_limit<B: RuleBook>(
     alloc: Global,
     book: &B,
@@ -23,13 +299,17 @@ pub fn first_limit<B: RuleBook>(
     requires tour { IsTour tour.now }
     requires params { B.params_of book.now ≡ tour.now.params }
     requires roots { AreRootStates (B.is_state_at book.now) tour.now.start roots.now }
-    requires few { length roots.now < 2 ^ 32 }
     ensures { IfOk result (IsLimit (problem_of tour.now (B.advances_of book.now) (B.covering book.now) (B.idles_of book.now)) (allows tour.now.params) (IsRootState roots.now)) }
 {
-    let _ = alloc;
-    let _ = book;
-    let _ = tour;
-    let _ = roots;
-    let _ = budget;
-    Ok(None)
+    let guess = guessed(
+        alloc,
+        book,
+        tour,
+        roots,
+        budget.saturating_mul(WORK) as usize,
+    )?;
+    match guess.best {
+        None => Ok(None),
+        Some(best) => Ok(best.checked_add(1)),
+    }
 }

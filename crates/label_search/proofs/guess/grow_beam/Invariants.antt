@@ -1,0 +1,10 @@
+use Rattle.std.proofs.Common.{◌≡◌, ◌+◌, ◌-◌, ◌<◌, take, List}
+use Rattle.duty_core.specs.Params.{allows}
+use Rattle.tour_model.specs.declared.limits.TheConstants.{STEP_LIMIT}
+use Rattle.cert_text.specs.Planning.{problem_of, state_at}
+use Rattle.label_search.specs.Searching.{IsRootState}
+use Rattle.label_search.specs.Ways.{AreReached, AreRankedReached, IsGuess, IsLeastOf, ArePartsOf}
+use Rattle.label_search.proofs.guess.grow_beam.Given as goal
+
+abbrev pub invariant-loop-label : goal.invariant-loop-label
+invariant-loop-label g l = AreRankedReached (problem_of l.tour (g.B.RuleBook.advances_of l.book) (g.B.RuleBook.covering l.book) (g.B.RuleBook.idles_of l.book)) (state_at l.tour (g.B.RuleBook.is_state_at l.book)) (allows l.tour.params) (IsRootState l.roots) (l.step + 1) l.list.items

@@ -1,0 +1,14 @@
+use Rattle.std.proofs.Common.{◌≡◌, ◌+◌, ◌-◌, ◌<◌, take, List}
+use Rattle.duty_core.specs.Params.{allows}
+use Rattle.tour_model.specs.declared.limits.TheConstants.{STEP_LIMIT}
+use Rattle.cert_text.specs.Planning.{problem_of, state_at}
+use Rattle.label_search.specs.Searching.{IsRootState}
+use Rattle.label_search.specs.Ways.{AreReached, AreRankedReached, IsGuess, IsLeastOf, ArePartsOf}
+use Rattle.label_search.proofs.guess.grow_label.Given as goal
+
+abbrev pub invariant-loop-grown : goal.invariant-loop-grown
+invariant-loop-grown g l = record {
+  can : (goal.iterator-loop-grown g).can_next l.grown-iterator;
+  finite : (goal.iterator-loop-grown g).is_finite l.grown-iterator;
+  reached : AreRankedReached (problem_of l.tour (g.B.RuleBook.advances_of l.book) (g.B.RuleBook.covering l.book) (g.B.RuleBook.idles_of l.book)) (state_at l.tour (g.B.RuleBook.is_state_at l.book)) (allows l.tour.params) (IsRootState l.roots) (l.step + 1) l.list.items;
+}

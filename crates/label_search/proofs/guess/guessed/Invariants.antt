@@ -1,0 +1,17 @@
+use Rattle.std.proofs.Common.{◌≡◌, ◌+◌, ◌-◌, ◌<◌, take, List}
+use Rattle.duty_core.specs.Params.{allows}
+use Rattle.tour_model.specs.declared.limits.TheConstants.{STEP_LIMIT}
+use Rattle.cert_text.specs.Planning.{problem_of, state_at}
+use Rattle.label_search.specs.Searching.{IsRootState}
+use Rattle.label_search.specs.Ways.{AreReached, AreRankedReached, IsGuess, IsLeastOf, ArePartsOf}
+use Rattle.label_search.proofs.guess.guessed.Given as goal
+
+abbrev pub invariant-loop-step : goal.invariant-loop-step
+invariant-loop-step g l = record {
+  waiting : AreReached (problem_of l.tour (g.B.RuleBook.advances_of l.book) (g.B.RuleBook.covering l.book) (g.B.RuleBook.idles_of l.book)) (state_at l.tour (g.B.RuleBook.is_state_at l.book)) (allows l.tour.params) (IsRootState l.roots) l.step l.waiting.items;
+  guess : IsGuess (problem_of l.tour (g.B.RuleBook.advances_of l.book) (g.B.RuleBook.covering l.book) (g.B.RuleBook.idles_of l.book)) (allows l.tour.params) (IsRootState l.roots) l.guess.best;
+  within : l.step < STEP_LIMIT;
+}
+
+abbrev pub decreases-loop-step : goal.decreases-loop-step
+decreases-loop-step g l = STEP_LIMIT - l.step

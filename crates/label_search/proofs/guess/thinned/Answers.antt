@@ -1,0 +1,54 @@
+use Rattle.std.proofs.Common.{◌≡◌, ℕ, ◌+◌, ◌-◌, ◌*◌, ◌<◌, ◌≤◌, List, [], ◌∷◌, ◌++◌, length, take, get_or, true, false, refl, sym, ◌∙◌, ap, subst, arith, rules, inl, inr}
+use Rattle.std.specs.Prelude.{Option, None, Some}
+use Rattle.std.proofs.lemmas.List.{map-id}
+use Rattle.std.proofs.lemmas.Iterator.Adapters.{YieldsList-from_vec}
+use Rattle.std.proofs.lemmas.Iterator.Consumers.{YieldsList-turn, YieldsList-end}
+use Rattle.duty_core.specs.Params.{allows, BeginsUnit}
+use Rattle.rule_core.specs.Machine.{IsMachine}
+use Rattle.rule_core.specs.Reach.{IsOneOf}
+use Rattle.rule_core.specs.OneOf.{one_of_item}
+use Rattle.tour_model.specs.declared.label.Label.{Label}
+use Rattle.tour_model.specs.declared.tour.Tour.{Tour}
+use Rattle.tour_model.specs.Tour.{IsTour}
+use Rattle.tour_model.specs.Word.{word_length}
+use Rattle.cert_text.specs.Problem.{root_label}
+use Rattle.cert_text.specs.Planning.{problem_of, state_at, minute_of}
+use Rattle.cert_text.specs.Cover.{IsLabelAt, taken}
+use Rattle.cert_text.specs.ProblemLaws.{IsProblem}
+use Rattle.cert_text.specs.ProblemOf.{problem_laws}
+use Rattle.label_search.specs.Searching.{IsRootState, is_useful}
+use Rattle.label_search.specs.Ways.{IsReached, AreReached, AreRankedReached, IsGuess, IsLessOf, IsLeastOf, ArePartsOf}
+use Rattle.label_search.proofs.AnswerLaws.{root_state}
+use Rattle.label_search.proofs.GatherLaws.{useful_has_eta}
+use Rattle.label_search.proofs.GuessLaws.{root_reached, grown_reached, reached_push, ranked_push, guess_more, least_more, least_whole, limit_of_guess, parts_none, parts_departed, parts_waiting}
+use Rattle.label_search.proofs.Places.{one_of_permuted}
+use Rattle.label_search.proofs.guess.thinned.Goals as goal
+use Rattle.label_search.proofs.guess.thinned.Goals.{In-Some}
+
+reached_of : (g : _) (c : In-Some g) → IsReached (problem_of c.args.tour.now (g.B.RuleBook.advances_of c.args.book.now) (g.B.RuleBook.covering c.args.book.now) (g.B.RuleBook.idles_of c.args.book.now)) (state_at c.args.tour.now (g.B.RuleBook.is_state_at c.args.book.now))
+    (allows c.args.tour.now.params) (IsRootState c.args.roots.now) c.args.step c.in-Some.ranked.label
+reached_of g c =
+    let xs = c.sort_by_key.new.self.items in
+    let i = c.into_iter-ranked-iterator.ensures.into_iter_gives in
+    let t = YieldsList-turn (YieldsList-from_vec {s = c.into_iter-ranked-iterator.result} xs i.0 (omega arith)) c.loop-ranked.yielded c.loop-ranked.ranked-iterator c.loop-ranked.yielded_by c.next.result c.next.new.self c.in-Some.ranked c.in-Some.is c.next.ensures.steps in
+    c.requires.list c.in-Some.ranked (one_of_permuted c.args.list.items xs c.in_ok-sort_by_key.ensures.permutation c.in-Some.ranked (one_of_item xs (length c.loop-ranked.yielded) c.in-Some.ranked t.0 t.1))
+
+pub is_covered-requires-clause-beam : goal.is_covered-requires-clause-beam
+is_covered-requires-clause-beam g c l o = (c.loop-ranked.invariant.reached l (subst (λ ys. IsOneOf ys l) c.deref.ensures.value o)).at.state
+
+pub is_covered-requires-clause-label : goal.is_covered-requires-clause-label
+is_covered-requires-clause-label g c = (reached_of g (goal.at.is_covered-requires-clause-label g c).In-Some).at.state
+
+pub loop-ranked-preserved-then-not-is_covered : goal.loop-ranked-preserved-then-not-is_covered
+loop-ranked-preserved-then-not-is_covered g c =
+    let book = c.args.book.now in
+    let tour = c.args.tour.now in
+    let problem = problem_of tour (g.B.RuleBook.advances_of book) (g.B.RuleBook.covering book) (g.B.RuleBook.idles_of book) in
+    let is_state = state_at tour (g.B.RuleBook.is_state_at book) in
+    let starts = IsRootState c.args.roots.now in
+    record {
+      can = tt;
+      finite = tt;
+      reached = subst (AreReached problem is_state (allows tour.params) starts c.args.step) (sym c.in_ok-push.ensures.items)
+          (reached_push problem is_state (allows tour.params) starts c.args.step c.loop-ranked.beam.items c.in-Some.ranked.label c.loop-ranked.invariant.reached (reached_of g (goal.at.loop-ranked-preserved-then-not-is_covered g c).In-Some));
+    }

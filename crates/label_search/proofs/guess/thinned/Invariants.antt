@@ -1,0 +1,14 @@
+use Rattle.std.proofs.Common.{◌≡◌, ◌+◌, ◌-◌, ◌<◌, take, List}
+use Rattle.duty_core.specs.Params.{allows}
+use Rattle.tour_model.specs.declared.limits.TheConstants.{STEP_LIMIT}
+use Rattle.cert_text.specs.Planning.{problem_of, state_at}
+use Rattle.label_search.specs.Searching.{IsRootState}
+use Rattle.label_search.specs.Ways.{AreReached, AreRankedReached, IsGuess, IsLeastOf, ArePartsOf}
+use Rattle.label_search.proofs.guess.thinned.Given as goal
+
+abbrev pub invariant-loop-ranked : goal.invariant-loop-ranked
+invariant-loop-ranked g l = record {
+  can : (goal.iterator-loop-ranked g).can_next l.ranked-iterator;
+  finite : (goal.iterator-loop-ranked g).is_finite l.ranked-iterator;
+  reached : AreReached (problem_of l.tour (g.B.RuleBook.advances_of l.book) (g.B.RuleBook.covering l.book) (g.B.RuleBook.idles_of l.book)) (state_at l.tour (g.B.RuleBook.is_state_at l.book)) (allows l.tour.params) (IsRootState l.roots) l.step l.beam.items;
+}
