@@ -1,5 +1,5 @@
 -- What the planner answers to its words: which status, for which cause, and with which text.
-use Rattle.std.specs.Prelude.{◌≡◌, ◌⊎◌, ℕ, List, Option, Some, true, false, Ok, Err}
+use Rattle.std.specs.Prelude.{◌≡◌, ◌⊎◌, ℕ, List, [], Option, Some, true, false, Ok, Err}
 use Rattle.std.specs.Io.KnownBytes.{Keeps, Appends}
 use Rattle.duty_core.specs.declared.activity.Activity.{Activity}
 use Rattle.duty_core.specs.Lawful.{IsLawful}
@@ -129,7 +129,7 @@ pub record PlanDone (call : Call) (text : Bytes) : Type 0 where
   pub lawful : IsLawful tour.params (log_start tour log) log
   pub schedule : List Activity
   pub shortest : IsShortest tour log schedule
-  pub told : IsText (report tour schedule) text
+  pub told : IsText (report tour schedule []) text
 
 -- Infeasible, of `plan`: the log is lawful, and behind it no schedule serves the tour lawfully.
 pub record PlanInfeasible (call : Call) (text : Bytes) : Type 0 where

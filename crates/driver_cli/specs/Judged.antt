@@ -1,5 +1,5 @@
 -- The statuses and texts that answer a command, a tour and a log.
-use Rattle.std.specs.Prelude.{◌≡◌, ◌≢◌, ◌⊎◌, ℕ, ◌+◌, ◌*◌, List, true, false, Option, Some, Ok, Err}
+use Rattle.std.specs.Prelude.{◌≡◌, ◌≢◌, ◌⊎◌, ℕ, ◌+◌, ◌*◌, List, [], true, false, Option, Some, Ok, Err}
 use Rattle.duty_core.specs.declared.activity.Activity.{Activity}
 use Rattle.duty_core.specs.Lawful.{IsLawful}
 use Rattle.duty_core.specs.Params.{unit_minutes}
@@ -27,7 +27,7 @@ log_minute tour log unit = log_start tour log + unit_minutes tour.params * unit
 
 -- what planning a tour behind a lawful log is answered
 abbrev pub IsPlanAnswer : Tour → List Activity → Status → Bytes → Type 0
-IsPlanAnswer tour log Done text = (schedule : List Activity) × IsShortest tour log schedule × IsText (report tour schedule) text
+IsPlanAnswer tour log Done text = (schedule : List Activity) × IsShortest tour log schedule × IsText (report tour schedule []) text
 IsPlanAnswer tour log Infeasible text = IsInfeasible tour log × (text ≡ infeasible_text)
 IsPlanAnswer tour log Spent text = IsSpent tour log × (text ≡ spent_text)
 IsPlanAnswer tour log _ text = ⊥

@@ -69,7 +69,7 @@ fn planned(
             serves_by_steps(tour);
             Ok(Answer {
                 status: Status::Done,
-                text: report_text(alloc, tour, steps.items())?,
+                text: report_text(alloc, tour, steps.items(), &[])?,
             })
         }
         Planned::Infeasible => line(alloc, Status::Infeasible, "infeasible\n"),
