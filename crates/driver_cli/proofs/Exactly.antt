@@ -1,6 +1,6 @@
 -- The causes of the answers exclude each other, so each answer comes where its cause holds.
-use Rattle.std.specs.Prelude.{◌≡◌, ◌⊎◌, ◌+◌, ℕ, List, Option, None, Some, IfSome, true, false, Result, Ok, Err, [], ◌∷◌, ◌++◌, take, drop, refl}
-use Rattle.std.proofs.Common.{inl, inr, sym, subst, ◌∙◌, arith}
+use Rattle.std.specs.Prelude.{◌≡◌, ◌⊎◌, ◌+◌, ℕ, codes, length, List, Option, None, Some, IfSome, true, false, Result, Ok, Err, [], ◌∷◌, ◌++◌, take, drop, refl}
+use Rattle.std.proofs.Common.{inl, inr, sym, subst, ap, ◌∙◌, arith}
 use Rattle.std.specs.FinMap.{get}
 use Rattle.duty_core.specs.declared.activity.Activity.{Activity}
 use Rattle.duty_core.specs.Lawful.{IsLawful}
@@ -20,7 +20,10 @@ use Rattle.driver_cli.specs.declared.answer.Status.TheVariants.{Done, Usage, Ref
 use Rattle.driver_cli.specs.declared.command.Command.{Command}
 use Rattle.driver_cli.specs.declared.command.Command.TheVariants.{Plan, Audit}
 use Rattle.driver_cli.specs.Book.{is_planned}
-use Rattle.driver_cli.specs.Command.{word_of, IsSentence, IsNoSentence}
+use Rattle.std.specs.Fmt.{decimal}
+use Rattle.std.proofs.lemmas.Fmt.{decimal_injective}
+use Rattle.driver_cli.specs.Command.{IsPlanSentence, IsSentence, IsNoSentence}
+use Rattle.driver_cli.specs.Planned.{HasAsMany}
 use Rattle.driver_cli.specs.Given.{GivesTour, GivesLog}
 use Rattle.driver_cli.specs.Sent.{Sent}
 use Rattle.driver_cli.specs.Answers.{Call, IsTourRead, IsRead, AnswersUsage, TourUnread, TourRefused, BookRefused, LogUnread, LogRefused, AnswersUnlawful, AuditDone, PlanDone, PlanInfeasible, PlanSpent, Answers, Ends}
@@ -43,14 +46,31 @@ pub record AreSame (c c' : Command) (t t' l l' : Bytes) : Type 0 where
 first_same : (a b : ℕ) (xs ys : List ℕ) → a ∷ xs ≡ b ∷ ys → a ≡ b
 first_same a b xs ys e = cc
 
-plan_is_no_audit : {P : Type 0} → word_of Plan ≡ word_of Audit → P
+plan_is_no_audit : {P : Type 0} → codes "plan" ≡ codes "audit" → P
 plan_is_no_audit e = absurd (omega (arith, first_same _ _ _ _ e))
 
+same_command : (a b : ℕ) → a ≡ b → Plan a ≡ Plan b
+same_command a b e = ap (λ n. Plan n) e
+
+same_plan : (words : List Bytes) (a b : ℕ) (t l t' l' : Bytes) → IsPlanSentence words a t l → IsPlanSentence words b t' l' → AreSame (Plan a) (Plan b) t t' l l'
+same_plan words a b t l t' l' (inl p) (inl q) = record { command = same_command a b (p.1 ∙ sym q.1); tour = (let e = p.0 in let f = q.0 in cc); log = (let e = p.0 in let f = q.0 in cc) }
+same_plan words a b t l t' l' (inr p) (inr q) =
+    let e = p.0 in let f = q.0 in
+    let m = p.1.most in let n = q.1.most in
+    let d : decimal a ≡ decimal b = cc in
+    record { command = same_command a b (decimal_injective a b (omega arith) (omega arith) d); tour = cc; log = cc }
+same_plan words a b t l t' l' (inl p) (inr q) = absurd (let z : 3 ≡ 5 = sym (ap length p.0) ∙ ap length q.0 in omega arith)
+same_plan words a b t l t' l' (inr p) (inl q) = absurd (let z : 5 ≡ 3 = sym (ap length p.0) ∙ ap length q.0 in omega arith)
+
+no_both : {P : Type 0} (words : List Bytes) (a : ℕ) (t l t' l' : Bytes) → IsPlanSentence words a t l → IsSentence words Audit t' l' → P
+no_both words a t l t' l' (inl p) q = plan_is_no_audit (let e = p.0 in let f : words ≡ codes "audit" ∷ t' ∷ l' ∷ [] = q in let g : codes "plan" ≡ codes "audit" = cc in g)
+no_both words a t l t' l' (inr p) q = absurd (let f : words ≡ codes "audit" ∷ t' ∷ l' ∷ [] = q in let z : 5 ≡ 3 = sym (ap length p.0) ∙ ap length f in omega arith)
+
 same_words : (words : List Bytes) (c c' : Command) (t l t' l' : Bytes) → IsSentence words c t l → IsSentence words c' t' l' → AreSame c c' t t' l l'
-same_words words Plan Plan t l t' l' p q = record { command = refl; tour = cc; log = cc }
+same_words words (Plan a) (Plan b) t l t' l' p q = same_plan words a b t l t' l' p q
 same_words words Audit Audit t l t' l' p q = record { command = refl; tour = cc; log = cc }
-same_words words Plan Audit t l t' l' p q = plan_is_no_audit (let e : word_of Plan ≡ word_of Audit = cc in e)
-same_words words Audit Plan t l t' l' p q = plan_is_no_audit (let e : word_of Plan ≡ word_of Audit = cc in e)
+same_words words (Plan a) Audit t l t' l' p q = no_both words a t l t' l' p q
+same_words words Audit (Plan b) t l t' l' p q = no_both words b t' l' t l q p
 
 -- what the file of a name begins with, told of a desk that tells its files
 start_at : (known : Option Files) (files : Files) (name : Bytes) (limit : ℕ) (bytes : Bytes) → known ≡ Some files → IfSome known (λ files. start_of files name limit ≡ Some bytes) → start_of files name limit ≡ Some bytes
@@ -134,14 +154,14 @@ tour_of_log : (call : Call) → SomeLog call → SomeTour call
 tour_of_log call s = record { command = s.command; tour = s.tour; log_name = s.read.log_name; read = s.read.tour_read }
 
 done_log : (call : Call) (text : Bytes) → PlanDone call text ⊎ AuditDone call text → SomeLog call
-done_log call text (inl h) = record { command = Plan; tour = h.tour; log = h.log; read = h.read }
+done_log call text (inl h) = record { command = Plan h.budget; tour = h.tour; log = h.log; read = h.read }
 done_log call text (inr h) = record { command = Audit; tour = h.tour; log = h.log; read = h.read }
 
 infeasible_log : (call : Call) (text : Bytes) → PlanInfeasible call text → SomeLog call
-infeasible_log call text h = record { command = Plan; tour = h.tour; log = h.log; read = h.read }
+infeasible_log call text h = record { command = Plan h.budget; tour = h.tour; log = h.log; read = h.read }
 
 spent_log : (call : Call) (text : Bytes) → PlanSpent call text → SomeLog call
-spent_log call text h = record { command = Plan; tour = h.tour; log = h.log; read = h.read }
+spent_log call text h = record { command = Plan h.budget; tour = h.tour; log = h.log; read = h.read }
 
 unlawful_log : (call : Call) (text : Bytes) → AnswersUnlawful call text → SomeLog call
 unlawful_log call text h = record { command = h.command; tour = h.tour; log = h.log; read = h.read }
@@ -220,22 +240,22 @@ no_unlawful call c tour log text h u =
     u.first.unlawful (lawful_before u.tour.params (log_start u.tour u.log) u.log (u.unit + 1) l)
 
 -- another command
-no_plan : (call : Call) (tour tour' : Tour) (log log' : List Activity) → HasLog call Audit tour (Ok log) → IsRead call Plan tour' log' → ⊥
-no_plan call tour tour' log log' h r = let e : Audit ≡ Plan = (same_given call Audit Plan tour tour' log log' h r).command in cc
+no_plan : (call : Call) (budget : ℕ) (tour tour' : Tour) (log log' : List Activity) → HasLog call Audit tour (Ok log) → IsRead call (Plan budget) tour' log' → ⊥
+no_plan call budget tour tour' log log' h r = let e : Audit ≡ Plan budget = (same_given call Audit (Plan budget) tour tour' log log' h r).command in cc
 
-no_audit : (call : Call) (tour tour' : Tour) (log log' : List Activity) → HasLog call Plan tour (Ok log) → IsRead call Audit tour' log' → ⊥
-no_audit call tour tour' log log' h r = let e : Plan ≡ Audit = (same_given call Plan Audit tour tour' log log' h r).command in cc
+no_audit : (call : Call) (budget : ℕ) (tour tour' : Tour) (log log' : List Activity) → HasLog call (Plan budget) tour (Ok log) → IsRead call Audit tour' log' → ⊥
+no_audit call budget tour tour' log log' h r = let e : Plan budget ≡ Audit = (same_given call (Plan budget) Audit tour tour' log log' h r).command in cc
 
 -- a schedule of a tour that has none
-no_plan_done : (call : Call) (tour : Tour) (log : List Activity) (text : Bytes) → HasLog call Plan tour (Ok log) → IsInfeasible tour log → PlanDone call text → ⊥
-no_plan_done call tour log text h none d =
-    let same = same_given call Plan Plan tour d.tour log d.log h d.read in
+no_plan_done : (call : Call) (budget : ℕ) (tour : Tour) (log : List Activity) (text : Bytes) → HasLog call (Plan budget) tour (Ok log) → IsInfeasible tour log → PlanDone call text → ⊥
+no_plan_done call budget tour log text h none d =
+    let same = same_given call (Plan budget) (Plan d.budget) tour d.tour log d.log h d.read in
     let solves : IsSolution tour log d.schedule = subst (λ t. IsSolution t log d.schedule) (sym same.tour) (subst (λ units. IsSolution d.tour units d.schedule) (sym same.log) d.shortest.solves) in
     none d.schedule solves
 
-no_plan_infeasible : (call : Call) (tour : Tour) (log schedule : List Activity) (text : Bytes) → HasLog call Plan tour (Ok log) → IsSolution tour log schedule → PlanInfeasible call text → ⊥
-no_plan_infeasible call tour log schedule text h solves d =
-    let same = same_given call Plan Plan tour d.tour log d.log h d.read in
+no_plan_infeasible : (call : Call) (budget : ℕ) (tour : Tour) (log schedule : List Activity) (text : Bytes) → HasLog call (Plan budget) tour (Ok log) → IsSolution tour log schedule → PlanInfeasible call text → ⊥
+no_plan_infeasible call budget tour log schedule text h solves d =
+    let same = same_given call (Plan budget) (Plan d.budget) tour d.tour log d.log h d.read in
     let solves' : IsSolution d.tour d.log schedule = subst (λ units. IsSolution d.tour units schedule) same.log (subst (λ t. IsSolution t log schedule) same.tour solves) in
     d.infeasible schedule solves'
 
@@ -307,7 +327,7 @@ log_refused_exact call Spent old new before now e c tour fault h = absurd (no_fa
 log_refused_exact call LogUnlawful old new before now e c tour fault h = absurd (no_faulty_log call c tour fault h (unlawful_log call e.0 e.1))
 
 done_lawful : (call : Call) (c : Command) (tour : Tour) (log : List Activity) (text : Bytes) → HasLog call c tour (Ok log) → PlanDone call text ⊎ AuditDone call text → IsLawful tour.params (log_start tour log) log
-done_lawful call c tour log text h (inl d) = lawful_there call c Plan tour d.tour log d.log h d.read d.lawful
+done_lawful call c tour log text h (inl d) = lawful_there call c (Plan d.budget) tour d.tour log d.log h d.read d.lawful
 done_lawful call c tour log text h (inr d) = lawful_there call c Audit tour d.tour log d.log h d.read d.lawful
 
 unlawful_exact : (call : Call) (status : Status) (old new : Option Bytes) (before now : ℕ) → Ends (Answers call) status old new before now → (c : Command) (tour : Tour) (log : List Activity) → HasLog call c tour (Ok log) → (IsLawful tour.params (log_start tour log) log → ⊥) → IsOneOf (LogUnlawful ∷ ReadFault ∷ WriteFault ∷ Memory ∷ []) status
@@ -318,8 +338,8 @@ unlawful_exact call Memory old new before now e c tour log h un = inr (inr (inr 
 unlawful_exact call Usage old new before now e c tour log h un = absurd (no_usage call c h.tour_there.has.tour_name h.log_name e.0 h.tour_there.has.asked.sentence e.1)
 unlawful_exact call Refused old new before now e c tour log h un = absurd (no_refusal call c tour log e.0 h e.1)
 unlawful_exact call Done old new before now e c tour log h un = absurd (un (done_lawful call c tour log e.0 h e.1))
-unlawful_exact call Infeasible old new before now e c tour log h un = absurd (un (lawful_there call c Plan tour e.1.tour log e.1.log h e.1.read e.1.lawful))
-unlawful_exact call Spent old new before now e c tour log h un = absurd (un (lawful_there call c Plan tour e.1.tour log e.1.log h e.1.read e.1.lawful))
+unlawful_exact call Infeasible old new before now e c tour log h un = absurd (un (lawful_there call c (Plan e.1.budget) tour e.1.tour log e.1.log h e.1.read e.1.lawful))
+unlawful_exact call Spent old new before now e c tour log h un = absurd (un (lawful_there call c (Plan e.1.budget) tour e.1.tour log e.1.log h e.1.read e.1.lawful))
 
 lawful_exact : (call : Call) (status : Status) (old new : Option Bytes) (before now : ℕ) → Ends (Answers call) status old new before now → (tour : Tour) (log : List Activity) → HasLawfulLog call Audit tour log → IsOneOf (Done ∷ ReadFault ∷ WriteFault ∷ Memory ∷ []) status
 lawful_exact call Done old new before now e tour log h = inl refl
@@ -329,34 +349,52 @@ lawful_exact call Memory old new before now e tour log h = inr (inr (inr (inl re
 lawful_exact call Usage old new before now e tour log h = absurd (no_usage call Audit h.there.tour_there.has.tour_name h.there.log_name e.0 h.there.tour_there.has.asked.sentence e.1)
 lawful_exact call Refused old new before now e tour log h = absurd (no_refusal call Audit tour log e.0 h.there e.1)
 lawful_exact call LogUnlawful old new before now e tour log h = absurd (no_unlawful call Audit tour log e.0 h e.1)
-lawful_exact call Infeasible old new before now e tour log h = absurd (no_plan call tour e.1.tour log e.1.log h.there e.1.read)
-lawful_exact call Spent old new before now e tour log h = absurd (no_plan call tour e.1.tour log e.1.log h.there e.1.read)
+lawful_exact call Infeasible old new before now e tour log h = absurd (no_plan call e.1.budget tour e.1.tour log e.1.log h.there e.1.read)
+lawful_exact call Spent old new before now e tour log h = absurd (no_plan call e.1.budget tour e.1.tour log e.1.log h.there e.1.read)
 
-no_done : (call : Call) (tour : Tour) (log : List Activity) (text : Bytes) → HasLog call Plan tour (Ok log) → IsInfeasible tour log → PlanDone call text ⊎ AuditDone call text → ⊥
-no_done call tour log text h none (inl d) = no_plan_done call tour log text h none d
-no_done call tour log text h none (inr d) = no_audit call tour d.tour log d.log h d.read
+no_done : (call : Call) (budget : ℕ) (tour : Tour) (log : List Activity) (text : Bytes) → HasLog call (Plan budget) tour (Ok log) → IsInfeasible tour log → PlanDone call text ⊎ AuditDone call text → ⊥
+no_done call budget tour log text h none (inl d) = no_plan_done call budget tour log text h none d
+no_done call budget tour log text h none (inr d) = no_audit call budget tour d.tour log d.log h d.read
 
-infeasible_exact : (call : Call) (status : Status) (old new : Option Bytes) (before now : ℕ) → Ends (Answers call) status old new before now → (tour : Tour) (log : List Activity) → HasLawfulLog call Plan tour log → IsInfeasible tour log → IsOneOf (Infeasible ∷ Spent ∷ ReadFault ∷ WriteFault ∷ Memory ∷ []) status
-infeasible_exact call Infeasible old new before now e tour log h none = inl refl
-infeasible_exact call Spent old new before now e tour log h none = inr (inl refl)
-infeasible_exact call ReadFault old new before now e tour log h none = inr (inr (inl refl))
-infeasible_exact call WriteFault old new before now e tour log h none = inr (inr (inr (inl refl)))
-infeasible_exact call Memory old new before now e tour log h none = inr (inr (inr (inr (inl refl))))
-infeasible_exact call Usage old new before now e tour log h none = absurd (no_usage call Plan h.there.tour_there.has.tour_name h.there.log_name e.0 h.there.tour_there.has.asked.sentence e.1)
-infeasible_exact call Refused old new before now e tour log h none = absurd (no_refusal call Plan tour log e.0 h.there e.1)
-infeasible_exact call LogUnlawful old new before now e tour log h none = absurd (no_unlawful call Plan tour log e.0 h e.1)
-infeasible_exact call Done old new before now e tour log h none = absurd (no_done call tour log e.0 h.there none e.1)
+infeasible_exact : (call : Call) (status : Status) (old new : Option Bytes) (before now : ℕ) → Ends (Answers call) status old new before now → (budget : ℕ) (tour : Tour) (log : List Activity) → HasLawfulLog call (Plan budget) tour log → IsInfeasible tour log → IsOneOf (Infeasible ∷ Spent ∷ ReadFault ∷ WriteFault ∷ Memory ∷ []) status
+infeasible_exact call Infeasible old new before now e budget tour log h none = inl refl
+infeasible_exact call Spent old new before now e budget tour log h none = inr (inl refl)
+infeasible_exact call ReadFault old new before now e budget tour log h none = inr (inr (inl refl))
+infeasible_exact call WriteFault old new before now e budget tour log h none = inr (inr (inr (inl refl)))
+infeasible_exact call Memory old new before now e budget tour log h none = inr (inr (inr (inr (inl refl))))
+infeasible_exact call Usage old new before now e budget tour log h none = absurd (no_usage call (Plan budget) h.there.tour_there.has.tour_name h.there.log_name e.0 h.there.tour_there.has.asked.sentence e.1)
+infeasible_exact call Refused old new before now e budget tour log h none = absurd (no_refusal call (Plan budget) tour log e.0 h.there e.1)
+infeasible_exact call LogUnlawful old new before now e budget tour log h none = absurd (no_unlawful call (Plan budget) tour log e.0 h e.1)
+infeasible_exact call Done old new before now e budget tour log h none = absurd (no_done call budget tour log e.0 h.there none e.1)
 
-done_exact : (call : Call) (status : Status) (old new : Option Bytes) (before now : ℕ) → Ends (Answers call) status old new before now → (tour : Tour) (log schedule : List Activity) → HasLawfulLog call Plan tour log → IsSolution tour log schedule → IsOneOf (Done ∷ Spent ∷ ReadFault ∷ WriteFault ∷ Memory ∷ []) status
-done_exact call Done old new before now e tour log schedule h solves = inl refl
-done_exact call Spent old new before now e tour log schedule h solves = inr (inl refl)
-done_exact call ReadFault old new before now e tour log schedule h solves = inr (inr (inl refl))
-done_exact call WriteFault old new before now e tour log schedule h solves = inr (inr (inr (inl refl)))
-done_exact call Memory old new before now e tour log schedule h solves = inr (inr (inr (inr (inl refl))))
-done_exact call Usage old new before now e tour log schedule h solves = absurd (no_usage call Plan h.there.tour_there.has.tour_name h.there.log_name e.0 h.there.tour_there.has.asked.sentence e.1)
-done_exact call Refused old new before now e tour log schedule h solves = absurd (no_refusal call Plan tour log e.0 h.there e.1)
-done_exact call LogUnlawful old new before now e tour log schedule h solves = absurd (no_unlawful call Plan tour log e.0 h e.1)
-done_exact call Infeasible old new before now e tour log schedule h solves = absurd (no_plan_infeasible call tour log schedule e.0 h.there solves e.1)
+done_exact : (call : Call) (status : Status) (old new : Option Bytes) (before now : ℕ) → Ends (Answers call) status old new before now → (budget : ℕ) (tour : Tour) (log schedule : List Activity) → HasLawfulLog call (Plan budget) tour log → IsSolution tour log schedule → IsOneOf (Done ∷ Spent ∷ ReadFault ∷ WriteFault ∷ Memory ∷ []) status
+done_exact call Done old new before now e budget tour log schedule h solves = inl refl
+done_exact call Spent old new before now e budget tour log schedule h solves = inr (inl refl)
+done_exact call ReadFault old new before now e budget tour log schedule h solves = inr (inr (inl refl))
+done_exact call WriteFault old new before now e budget tour log schedule h solves = inr (inr (inr (inl refl)))
+done_exact call Memory old new before now e budget tour log schedule h solves = inr (inr (inr (inr (inl refl))))
+done_exact call Usage old new before now e budget tour log schedule h solves = absurd (no_usage call (Plan budget) h.there.tour_there.has.tour_name h.there.log_name e.0 h.there.tour_there.has.asked.sentence e.1)
+done_exact call Refused old new before now e budget tour log schedule h solves = absurd (no_refusal call (Plan budget) tour log e.0 h.there e.1)
+done_exact call LogUnlawful old new before now e budget tour log schedule h solves = absurd (no_unlawful call (Plan budget) tour log e.0 h e.1)
+done_exact call Infeasible old new before now e budget tour log schedule h solves = absurd (no_plan_infeasible call budget tour log schedule e.0 h.there solves e.1)
+
+-- as many labels as another budget, of the same tour and log
+no_spent : (call : Call) (budget : ℕ) (tour : Tour) (log : List Activity) (text : Bytes) → HasLog call (Plan budget) tour (Ok log) → (HasAsMany tour log budget → ⊥) → PlanSpent call text → ⊥
+no_spent call budget tour log text h few d =
+    let same = same_given call (Plan budget) (Plan d.budget) tour d.tour log d.log h d.read in
+    let same_budget : budget ≡ d.budget = (let e = same.command in cc) in
+    few (subst (λ n. HasAsMany tour log n) (sym same_budget) (subst (λ units. HasAsMany tour units d.budget) (sym same.log) (subst (λ t. HasAsMany t d.log d.budget) (sym same.tour) d.spent.many)))
+
+enough_exact : (call : Call) (status : Status) (old new : Option Bytes) (before now : ℕ) → Ends (Answers call) status old new before now → (budget : ℕ) (tour : Tour) (log : List Activity) → HasLawfulLog call (Plan budget) tour log → (HasAsMany tour log budget → ⊥) → IsOneOf (Done ∷ Infeasible ∷ ReadFault ∷ WriteFault ∷ Memory ∷ []) status
+enough_exact call Done old new before now e budget tour log h few = inl refl
+enough_exact call Infeasible old new before now e budget tour log h few = inr (inl refl)
+enough_exact call ReadFault old new before now e budget tour log h few = inr (inr (inl refl))
+enough_exact call WriteFault old new before now e budget tour log h few = inr (inr (inr (inl refl)))
+enough_exact call Memory old new before now e budget tour log h few = inr (inr (inr (inr (inl refl))))
+enough_exact call Usage old new before now e budget tour log h few = absurd (no_usage call (Plan budget) h.there.tour_there.has.tour_name h.there.log_name e.0 h.there.tour_there.has.asked.sentence e.1)
+enough_exact call Refused old new before now e budget tour log h few = absurd (no_refusal call (Plan budget) tour log e.0 h.there e.1)
+enough_exact call LogUnlawful old new before now e budget tour log h few = absurd (no_unlawful call (Plan budget) tour log e.0 h e.1)
+enough_exact call Spent old new before now e budget tour log h few = absurd (no_spent call budget tour log e.0 h.there few e.1)
 
 -- A call that ends by the table of answers is exact.
 exact : (call : Call) (status : Status) (old new : Option Bytes) (before now : ℕ) → Ends (Answers call) status old new before now → IsExact call status
@@ -371,6 +409,7 @@ exact call status old new before now e = record {
   lawful = lawful_exact call status old new before now e;
   infeasible = infeasible_exact call status old new before now e;
   done = done_exact call status old new before now e;
+  enough = enough_exact call status old new before now e;
 }
 
 pub answer_exact : (call : Call) (status told : Status) (text : Bytes) (old new : Option Bytes) (before now : ℕ) → Answers call status text → Sent status text told old new before now → IsExact call told
@@ -387,6 +426,7 @@ memory_exact call = record {
   log_refused = λ c tour fault h. inr (inr (inr (inl refl)));
   unlawful = λ c tour log h un. inr (inr (inr (inl refl)));
   lawful = λ tour log h. inr (inr (inr (inl refl)));
-  infeasible = λ tour log h none. inr (inr (inr (inr (inl refl))));
-  done = λ tour log schedule h solves. inr (inr (inr (inr (inl refl))));
+  infeasible = λ budget tour log h none. inr (inr (inr (inr (inl refl))));
+  done = λ budget tour log schedule h solves. inr (inr (inr (inr (inl refl))));
+  enough = λ budget tour log h few. inr (inr (inr (inr (inl refl))));
 }

@@ -1,17 +1,3 @@
-pub mod ProblemLaws
-pub mod BetterLaws
-pub mod CoverLaws
-pub mod SoundLaws
-pub mod ProblemOf
-pub mod UnitLaws
-pub mod PlanLaws
-pub mod GrowthLaws
-pub mod OfferLaws
-pub mod NextLaws
-pub mod FirstLaws
-pub mod BestLaws
-pub mod PathLaws
-pub mod SearchLaws
 pub mod Words
 pub mod Departure
 pub mod Clock
@@ -19,3 +5,6 @@ pub mod RunLines
 pub mod Prefixes
 pub mod Composed
 pub mod Exactly
+pub mod Budgets
+pub mod Rebuilt
+pub mod MarkTimes

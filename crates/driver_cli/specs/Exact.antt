@@ -20,6 +20,7 @@ use Rattle.driver_cli.specs.declared.command.Command.TheVariants.{Plan, Audit}
 use Rattle.driver_cli.specs.Book.{is_planned}
 use Rattle.driver_cli.specs.Command.{IsSentence, IsNoSentence}
 use Rattle.driver_cli.specs.Answers.{Call}
+use Rattle.driver_cli.specs.Planned.{HasAsMany}
 
 -- The words are this command and these names, and the desk tells its files.
 pub record IsAsked (call : Call) (command : Command) (tour_name log_name : Bytes) (files : Files) : Type 0 where
@@ -71,7 +72,7 @@ pub record LacksLog (call : Call) : Type 0 where
   pub tour_there : HasPlannedTour call command log_name files tour
   pub missing : get files log_name ≡ None
 
--- Where a cause holds, its own answer comes, unless a file cannot be read, the answer cannot be sent, or memory is wanting; where a tour is planned, also unless the search's budget is spent.
+-- Where a cause holds, its own answer comes, unless a file cannot be read, the answer cannot be sent, or memory is wanting; where a tour is planned, also unless the search's budget is spent, which it is not where there are fewer labels than it allows.
 pub record IsExact (call : Call) (status : Status) : Type 0 where
   pub usage : IsNoSentence call.words → IsOneOf (Usage ∷ WriteFault ∷ Memory ∷ []) status
   pub tour_missing : LacksTour call → IsOneOf (ReadFault ∷ WriteFault ∷ Memory ∷ []) status
@@ -81,5 +82,6 @@ pub record IsExact (call : Call) (status : Status) : Type 0 where
   pub log_refused : (command : Command) (tour : Tour) (fault : LogFault) → HasLog call command tour (Err fault) → IsOneOf (Refused ∷ ReadFault ∷ WriteFault ∷ Memory ∷ []) status
   pub unlawful : (command : Command) (tour : Tour) (log : List Activity) → HasLog call command tour (Ok log) → (IsLawful tour.params (log_start tour log) log → ⊥) → IsOneOf (LogUnlawful ∷ ReadFault ∷ WriteFault ∷ Memory ∷ []) status
   pub lawful : (tour : Tour) (log : List Activity) → HasLawfulLog call Audit tour log → IsOneOf (Done ∷ ReadFault ∷ WriteFault ∷ Memory ∷ []) status
-  pub infeasible : (tour : Tour) (log : List Activity) → HasLawfulLog call Plan tour log → IsInfeasible tour log → IsOneOf (Infeasible ∷ Spent ∷ ReadFault ∷ WriteFault ∷ Memory ∷ []) status
-  pub done : (tour : Tour) (log schedule : List Activity) → HasLawfulLog call Plan tour log → IsSolution tour log schedule → IsOneOf (Done ∷ Spent ∷ ReadFault ∷ WriteFault ∷ Memory ∷ []) status
+  pub infeasible : (budget : ℕ) (tour : Tour) (log : List Activity) → HasLawfulLog call (Plan budget) tour log → IsInfeasible tour log → IsOneOf (Infeasible ∷ Spent ∷ ReadFault ∷ WriteFault ∷ Memory ∷ []) status
+  pub done : (budget : ℕ) (tour : Tour) (log schedule : List Activity) → HasLawfulLog call (Plan budget) tour log → IsSolution tour log schedule → IsOneOf (Done ∷ Spent ∷ ReadFault ∷ WriteFault ∷ Memory ∷ []) status
+  pub enough : (budget : ℕ) (tour : Tour) (log : List Activity) → HasLawfulLog call (Plan budget) tour log → (HasAsMany tour log budget → ⊥) → IsOneOf (Done ∷ Infeasible ∷ ReadFault ∷ WriteFault ∷ Memory ∷ []) status

@@ -1,8 +1,3 @@
-pub mod Problem
-pub mod Layers
-pub mod Planning
-pub mod Plain
-pub mod Searching
 pub mod Planned
 pub mod Book
 pub mod Command

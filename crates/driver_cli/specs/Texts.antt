@@ -3,13 +3,12 @@ use Rattle.std.specs.Prelude.{ℕ, List, [], ◌∷◌, ◌++◌, codes}
 use Rattle.std.specs.Fmt.{decimal}
 use Rattle.tour_reader.specs.declared.fault.TourFault.{TourFault}
 use Rattle.duty_log.specs.declared.fault.LogFault.{LogFault}
-use Rattle.driver_cli.specs.declared.plan.TheConstants.{BUDGET}
 use Rattle.driver_cli.specs.FaultText.{tour_fault_text, log_fault_text}
 use Rattle.driver_cli.specs.Parts.{Part, Said, Time}
 
 -- of words that are no sentence
 abbrev pub usage_text : List ℕ
-usage_text = codes "usage: driver plan TOUR LOG\n       driver audit TOUR LOG\n"
+usage_text = codes "usage: driver plan TOUR LOG [--budget N]\n       driver audit TOUR LOG\n"
 
 -- `read fault` and the file's name as it was given
 abbrev pub read_fault_text : List ℕ → List ℕ
@@ -40,5 +39,5 @@ abbrev pub infeasible_text : List ℕ
 infeasible_text = codes "infeasible\n"
 
 -- `spent` and the budget of labels
-abbrev pub spent_text : List ℕ
-spent_text = codes "spent " ++ decimal BUDGET ++ codes "\n"
+abbrev pub spent_text : ℕ → List ℕ
+spent_text budget = codes "spent " ++ decimal budget ++ codes "\n"

@@ -8,6 +8,7 @@ ghost use Rattle.duty_core.specs.declared.limits.TheConstants.{LONGEST_LOG};
 ghost use Rattle.tour_model.specs.Schedule.{log_start};
 ghost use Rattle.tour_model.specs.Tour.{IsTour, IsParams};
 ghost use Rattle.driver_cli.specs.Book.{is_planned};
+ghost use Rattle.driver_cli.specs.Command.{IsBudget, HasBudget};
 ghost use Rattle.driver_cli.specs.Parts.{IsText};
 ghost use Rattle.driver_cli.specs.Texts.{unlawful_text};
 ghost use Rattle.driver_cli.specs.Judged.{IsPlanAnswer, Judged, IsLogAnswer};
@@ -56,26 +57,28 @@ fn planned(
     tour: &Tour,
     log: &Timeline,
     roots: &Roots<UsState>,
+    budget: u32,
 ) -> Result<Answer, NoMemory>
     requires tour { IsTour tour.now }
     requires book { ⟦<UsBook as RuleBook>⟧.params_of book.now ≡ tour.now.params }
     requires short { unit_minutes tour.now.params * length log.now ≤ LONGEST_LOG }
     requires roots { AreRootsOf (unit_minutes tour.now.params) (⟦<UsBook as RuleBook>⟧.nexts_of book.now) (⟦<UsBook as RuleBook>⟧.covering book.now)
         (⟦<UsBook as RuleBook>⟧.root_of book.now (log_start tour.now log.now)) (log_start tour.now log.now) log.now roots.now }
-    ensures { IfOk result (λ answer. IsPlanAnswer tour.now log.now answer.status answer.text) }
+    requires budget { IsBudget budget }
+    ensures { IfOk result (λ answer. IsPlanAnswer tour.now log.now budget answer.status answer.text) }
 {
-    match plan_tour(alloc, book, tour, log, roots)? {
-        Planned::Shortest(steps) => {
+    match plan_tour(alloc, book, tour, log, roots, budget)? {
+        Planned::Shortest(schedule) => {
             serves_by_steps(tour);
             Ok(Answer {
                 status: Status::Done,
-                text: report_text(alloc, tour, steps.items(), &[])?,
+                text: report_text(alloc, tour, schedule.steps.items(), schedule.marks.items())?,
             })
         }
         Planned::Infeasible => line(alloc, Status::Infeasible, "infeasible\n"),
         Planned::Spent => Ok(Answer {
             status: Status::Spent,
-            text: spent_text(alloc)?,
+            text: spent_text(alloc, budget)?,
         }),
     }
 }
@@ -116,13 +119,14 @@ fn judged(
     requires planned { is_planned tour.now.params ≡ true }
     requires book { ⟦<UsBook as RuleBook>⟧.params_of book.now ≡ tour.now.params }
     requires short { unit_minutes tour.now.params * length log.now ≤ LONGEST_LOG }
+    requires command { HasBudget command }
     ensures { IfOk result (λ answer. Judged command tour.now log.now answer.status answer.text) }
 {
     let first = log_start(tour, log);
     match replay(alloc, book, log, first)? {
         Replayed::Unlawful { unit } => { Ok(unlawful(alloc, first + unit_of(tour.params) * unit)?) }
         Replayed::Lawful(roots) => match command {
-            Command::Plan => Ok(planned(alloc, book, tour, log, &roots)?),
+            Command::Plan { budget } => Ok(planned(alloc, book, tour, log, &roots, budget)?),
             Command::Audit => Ok(line(alloc, Status::Done, "lawful\n")?),
         },
     }
@@ -139,6 +143,7 @@ pub fn log_answer(
     requires tour { IsTour tour.now }
     requires planned { is_planned tour.now.params ≡ true }
     requires book { ⟦<UsBook as RuleBook>⟧.params_of book.now ≡ tour.now.params }
+    requires command { HasBudget command }
     ensures { IfOk result (λ answer. IsLogAnswer command tour.now bytes.now answer.status answer.text) }
 {
     match read_log(alloc, bytes, tour.params, tour.start) {

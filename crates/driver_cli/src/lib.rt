@@ -2,15 +2,9 @@
 #![tactic(auto)]
 
 mod answer;
-mod by_layers;
 mod command;
 mod fault_text;
-mod growth;
 mod judge;
-mod label;
-mod layer;
-mod layer_list;
-mod path;
 mod plan;
 mod report;
 #[cfg(test)]

@@ -1,7 +1,9 @@
-//! A report by hand.
+//! A report by hand, and the answer to a fault that no log of the planned books has.
 
 use crate::report::report_text;
+use crate::texts::log_refused_text;
 use duty_core::{Activity, Mark};
+use duty_log::LogFault;
 use std::test::Fail;
 use tour_reader::read_tour;
 
@@ -41,5 +43,12 @@ fn reports_two_stops(rt: HostRuntime) -> Result<(), Fail> {
             .as_bytes()
             .ends_with("\nmark split 2026-03-02T06:00\n".as_bytes())
     );
+    Ok(())
+}
+
+#[test]
+fn tells_a_row_that_is_not_on_a_unit(rt: HostRuntime) -> Result<(), Fail> {
+    let text = log_refused_text(rt.alloc(), LogFault::NotOnUnit { row: 1 })?;
+    assert_eq!(rt; text.as_bytes(), "log refused: NotOnUnit 1\n".as_bytes());
     Ok(())
 }

@@ -3,7 +3,6 @@ ghost use Rattle.std.specs.Prelude.{◌≡◌, IfOk};
 ghost use Rattle.driver_cli.specs.Texts.{spent_text, read_fault_text, tour_refused_text, log_refused_text};
 
 use crate::fault_text::{push_log_fault, push_tour_fault};
-use crate::plan::BUDGET;
 use crate::text::Text;
 use duty_core::NoMemory;
 use duty_log::LogFault;
@@ -12,14 +11,14 @@ use std::alloc::Global;
 use tour_reader::TourFault;
 
 /// The words that are sentences.
-pub const USAGE: &str = "usage: driver plan TOUR LOG\n       driver audit TOUR LOG\n";
+pub const USAGE: &str = "usage: driver plan TOUR LOG [--budget N]\n       driver audit TOUR LOG\n";
 
-/// The answer where the search's budget is spent.
-pub fn spent_text(alloc: Global) -> Result<Text, NoMemory>
-    ensures { IfOk result (λ text. text ≡ spent_text) }
+/// The answer where the search's budget of labels is spent.
+pub fn spent_text(alloc: Global, budget: u32) -> Result<Text, NoMemory>
+    ensures { IfOk result (λ text. text ≡ spent_text budget) }
 {
     let mut text = Text::of(alloc, "spent ")?;
-    text.push_number(alloc, BUDGET)?;
+    text.push_number(alloc, budget)?;
     text.push_str("\n")?;
     Ok(text)
 }

@@ -2,6 +2,7 @@
 ghost use Rattle.std.specs.Prelude.{◌≡◌, ◌≢◌, IfOk};
 ghost use Rattle.tour_model.specs.Tour.{IsTour};
 ghost use Rattle.driver_cli.specs.Answers.{Answers, Ends, call};
+ghost use Rattle.driver_cli.specs.Command.{HasBudget};
 ghost use Rattle.driver_cli.specs.Exact.{IsExact};
 ghost use Rattle.driver_cli.specs.Judged.{seen, IsTourAnswer, IsNamedAnswer};
 ghost use Rattle.driver_cli.specs.Texts.{read_fault_text, tour_refused_text};
@@ -54,7 +55,8 @@ fn tour_answer<D: Desk>(
     name: &Word,
     desk: &mut D,
 ) -> Result<Answer, NoMemory>
-    requires { IsTour tour.now }
+    requires tour { IsTour tour.now }
+    requires command { HasBudget command }
     ensures files { D.files desk.new ≡ D.files desk.old }
     ensures write_faults { D.write_faults desk.new ≡ D.write_faults desk.old }
     ensures write_failed { D.write_failed desk.new ≡ D.write_failed desk.old }
@@ -76,6 +78,7 @@ fn named_answer<D: Desk>(
     request: Request<'_>,
     desk: &mut D,
 ) -> Result<Answer, NoMemory>
+    requires { HasBudget request.command }
     ensures files { D.files desk.new ≡ D.files desk.old }
     ensures write_faults { D.write_faults desk.new ≡ D.write_faults desk.old }
     ensures write_failed { D.write_failed desk.new ≡ D.write_failed desk.old }
@@ -108,7 +111,9 @@ fn answer<D: Desk>(alloc: Global, words: &[Word], desk: &mut D) -> Result<Answer
 /// Does all that the planner does with these words: it reads a tour and a log from files of the
 /// desk, plans the tour behind the log or says whether the log is lawful, and sends one text.
 ///
-/// The words are `plan` or `audit`, the name of the tour's file and that of the log's. The status
+/// The words are `plan` or `audit`, the name of the tour's file and that of the log's; behind those of
+/// `plan` may stand `--budget` and the number of labels that the search may keep, from 1 to 500,000
+/// (else 200,000). The status
 /// tells how the call ended. It is the first of these that holds:
 ///
 /// - `Usage` where the words are others,

@@ -1,33 +1,34 @@
 -- The laws of a lawful history: its fronts, rest behind it, and the empty one.
-use Rattle.std.proofs.Common.{◌≡◌, ℕ, ◌+◌, ◌<◌, ◌≤◌, ◌⊎◌, true, false, List, [], ◌++◌, length, sym, refl, ◌∙◌, ap, subst, arith, length-append, inl, inr, ◌-◌}
-use Rattle.std.specs.Prelude.{ℤ, All, Contains, ◌<ℤ◌, replicate}
+use Rattle.std.proofs.Common.{◌≡◌, ◌↔◌, ℕ, ◌+◌, ◌<◌, ◌≤◌, ◌⊎◌, true, List, ◌++◌, length, sym, ◌∙◌, ap, subst, arith, length-append, inl, inr, ◌-◌}
+use Rattle.std.specs.Prelude.{All, Contains, ◌<ℤ◌, replicate}
 use Rattle.std.proofs.Math.Seq.{get_or-append_right}
 use Rattle.std.proofs.lemmas.Bool.{cases_lt}
-use Rattle.std.proofs.lemmas.List.{take-append-le, length-replicate}
-use Rattle.std.proofs.lemmas.List.Elements.{All-weaker, All-get_or}
+use Rattle.std.proofs.lemmas.List.{take-append-le}
+use Rattle.std.proofs.lemmas.List.Elements.{All-weaker}
 use Rattle.duty_core.specs.declared.activity.Activity.{Activity}
 use Rattle.duty_core.specs.declared.activity.Activity.TheVariants.{Off}
 use Rattle.duty_core.specs.declared.mark.Mark.{Mark}
 use Rattle.duty_core.specs.declared.mark.Mark.TheVariants.{SplitRest, DeferDay}
 use Rattle.duty_core.specs.declared.params.Params.{Params}
 use Rattle.duty_core.specs.declared.params.Params.TheVariants.{UsProperty, Canada, Hvnl}
-use Rattle.duty_core.specs.declared.rule.Rule.TheVariants.{UsPair, CaOff10, CaDefer, CaPair}
-use Rattle.duty_core.specs.declared.limits.TheConstants.{CA_LOST_LIMIT, CA_BOTH_LOST_LIMIT}
+use Rattle.duty_core.specs.declared.rule.Rule.TheVariants.{UsPair, CaDefer, CaPair}
+use Rattle.duty_core.specs.declared.limits.TheConstants.{CA_LOST_LIMIT}
 use Rattle.duty_core.specs.Activity.{rests}
 use Rattle.duty_core.specs.History.{unit_at, pad_units, padding, padded}
-use Rattle.duty_core.specs.HistoryLaws.{AreAlike, alike_back, alike_append, unit_at-append, unit_at-behind}
+use Rattle.duty_core.specs.HistoryLaws.{AreAlike, alike_back, unit_at-append, unit_at-behind}
 use Rattle.duty_core.specs.RestRun.{IsRun}
 use Rattle.duty_core.specs.RunLaws.{run_alike}
-use Rattle.duty_core.specs.Day.{day_number, IsNumberOfDay}
-use Rattle.duty_core.specs.Marks.{mark_minute, AreMarks, IsMinuteOf, IsDeferred}
+use Rattle.duty_core.specs.Day.{day_number}
+use Rattle.duty_core.specs.Marks.{mark_minute, AreMarks, IsDeferred}
 use Rattle.duty_core.specs.LostMinutes.{lost}
 use Rattle.duty_core.specs.UsRules.{MeetsUsPair}
 use Rattle.duty_core.specs.CaShift.{MeetsCaPair}
 use Rattle.duty_core.specs.Deferral.{MeetsCaDefer}
+use Rattle.duty_core.specs.MarkMeaning.{StandsIn}
 use Rattle.duty_core.specs.RuleBooks.{rules_of, KeepsPadded, KeepsAll, IsLawfulByBook}
 use Rattle.duty_core.specs.PrefixLaws.{padded_front}
-use Rattle.duty_core.specs.MarkListLaws.{no_member, IsPart, has_part, marks_in_order, marks_of_part}
-use Rattle.duty_core.specs.FrontLaws.{IsHead, run_before, head_run, run_end, head_lost, NamesRun, IsLostDay, StandsIn, minute_place, day_has_number, AreKept, head_keeps}
+use Rattle.duty_core.specs.MarkListLaws.{no_member, has_part, marks_in_order, marks_of_part}
+use Rattle.duty_core.specs.FrontLaws.{IsHead, run_before, head_run, run_end, head_lost, minute_place, day_has_number, AreKept, head_keeps}
 
 -- # What the marks of a lawful history stand for
 
@@ -120,9 +121,9 @@ front_is_head params h g = record {
   rest = λ k l. ap rests (unit_at-behind (padding params ++ h) (pad_units params) k l);
 }
 
--- a front keeps the book with some of the marks
+-- a front keeps the book with those of the marks that stand for something in it
 pub front_keeps : (params : Params) (first : ℕ) (h g : List Activity) (marks : List Mark) → KeepsAll params first (h ++ g) marks →
-    (kept : List Mark) × ((m : Mark) → Contains kept m → Contains marks m) × KeepsAll params first h kept
+    (kept : List Mark) × ((m : Mark) → Contains kept m ↔ (Contains marks m × StandsIn params first (padded params h) m)) × KeepsAll params first h kept
 front_keeps params first h g marks k =
     let n : ℕ = length (padding params ++ h) in
     let p : List Activity = padded params h in
@@ -130,7 +131,7 @@ front_keeps params first h g marks k =
     let f : IsHead n p q = front_is_head params h g in
     let c = has_kept params first n p q marks f k.marks_of_book (are_true params first (h ++ g) marks k) in (
       c.0,
-      c.2.of_list,
+      (λ m. ((λ d. (c.2.of_list m d, c.2.stands m d)), (λ d. c.2.keeps m d.0 d.1))),
       record {
         marks_of_book = c.1;
         rules = All-weaker (KeepsPadded params first q marks) (KeepsPadded params first p c.0) (head_keeps params first n p q marks c.0 f c.2) (rules_of params) k.rules;
@@ -185,6 +186,6 @@ rest_keeps params first h r marks all k = record {
   marks_of_book = k.marks_of_book;
   rules = All-weaker (KeepsPadded params first (padded params h) marks) (KeepsPadded params first (padded params (h ++ r)) marks)
       (head_keeps params first (length (padding params ++ h)) (padded params (h ++ r)) (padded params h) marks marks (rest_is_head params h r all)
-        (rest_kept params first h r marks all (are_true params first h marks k)))
+      (rest_kept params first h r marks all (are_true params first h marks k)))
       (rules_of params) k.rules;
 }

@@ -1,9 +1,8 @@
 -- A history p that is q up to a place and rest from there on keeps what q keeps, with those marks of q that stand for something in p.
-use Rattle.std.proofs.Common.{◌≡◌, ℕ, ◌+◌, ◌-◌, ◌<◌, ◌≤◌, ◌⊎◌, Bool, true, false, cond, ◌&&◌, List, length, sym, refl, ◌∙◌, ap, subst, arith, inl, inr, zero, suc}
-use Rattle.std.specs.Prelude.{nat_eq, ℤ, All, Contains}
+use Rattle.std.proofs.Common.{◌≡◌, ℕ, ◌+◌, ◌<◌, ◌≤◌, Bool, true, false, ◌&&◌, List, length, sym, refl, ◌∙◌, subst, arith, inl, inr, zero, suc}
+use Rattle.std.specs.Prelude.{nat_eq, ℤ, Contains}
 use Rattle.std.proofs.lemmas.Bool.{cases_lt, cases_Bool, cond-false}
 use Rattle.std.proofs.lemmas.Int.{ints}
-use Rattle.std.proofs.lemmas.List.Elements.{All-weaker}
 use Rattle.duty_core.specs.declared.activity.Activity.{Activity}
 use Rattle.duty_core.specs.declared.mark.Mark.{Mark}
 use Rattle.duty_core.specs.declared.mark.Mark.TheVariants.{SplitRest, DeferDay}
@@ -11,28 +10,28 @@ use Rattle.duty_core.specs.declared.params.Params.{Params}
 use Rattle.duty_core.specs.declared.params.Params.TheVariants.{UsProperty, Canada, Hvnl}
 use Rattle.duty_core.specs.declared.rule.Rule.{Rule}
 use Rattle.duty_core.specs.declared.rule.Rule.TheVariants.{UsWindow14, UsDrive11, UsBreak8, UsWeek, UsPair, CaDay13, CaDay14, CaShift13, CaShift14, CaElapsed16, CaOff10, CaDefer, CaPair, Ca24in14, CaCycle, Ca70without24, Au5h30, Au8h, Au11h, Au24h, Au24hRest, Au7d, Au7dRest, Au14d, Au14dNights}
-use Rattle.duty_core.specs.declared.limits.TheConstants.{US_FULL_REST, CA_FULL_REST, CA_LOST_LIMIT}
-use Rattle.duty_core.specs.Activity.{rests, works}
-use Rattle.duty_core.specs.Params.{has_berth}
+use Rattle.duty_core.specs.declared.limits.TheConstants.{CA_LOST_LIMIT}
+use Rattle.duty_core.specs.Activity.{rests}
 use Rattle.duty_core.specs.History.{unit_at}
 use Rattle.duty_core.specs.HistoryLaws.{AreAlike, alike_back, IsRule}
-use Rattle.duty_core.specs.RestRun.{IsRun, IsLongRun}
+use Rattle.duty_core.specs.RestRun.{IsRun}
 use Rattle.duty_core.specs.RunLaws.{run_alike, long_alike}
 use Rattle.duty_core.specs.Stretch.{IsBerth, HoldsBerth, HoldsRest}
 use Rattle.duty_core.specs.Day.{day_number, IsNumberOfDay}
 use Rattle.duty_core.specs.Counting.{places, duty}
 use Rattle.duty_core.specs.Marks.{IsMinuteOf, IsSplitAt, IsDeferred}
-use Rattle.duty_core.specs.DeclaredRest.{IsSplitRest, IsDeclared, IsLastDeclared, IsNextDeclared, ArePairedAt, IsSplittable, IsWaiting}
+use Rattle.duty_core.specs.DeclaredRest.{IsSplitRest, IsDeclared, IsLastDeclared, IsNextDeclared, ArePairedAt, IsSplittable}
 use Rattle.duty_core.specs.Base.{IsBase}
 use Rattle.duty_core.specs.UsRules.{IsUsPair, IsUsSplit, MeetsUsPair}
 use Rattle.duty_core.specs.CaShift.{IsCaPair, IsCaSplit, MeetsCaPair}
 use Rattle.duty_core.specs.LostMinutes.{is_lost, lost}
-use Rattle.duty_core.specs.Deferral.{HasRestIn, IsDeferral, IsCaDeferral, MeetsCaOff10, MeetsCaDefer}
+use Rattle.duty_core.specs.Deferral.{HasRestIn, IsDeferral, MeetsCaOff10, MeetsCaDefer}
 use Rattle.duty_core.specs.AuPeriods.{IsStart}
-use Rattle.duty_core.specs.RuleBooks.{rules_of, week_days, cycle_of, KeepsPadded}
+use Rattle.duty_core.specs.MarkMeaning.{NamesRun, StandsIn}
+use Rattle.duty_core.specs.RuleBooks.{week_days, cycle_of, KeepsPadded}
 use Rattle.duty_core.specs.LostLaws.{lost_means}
 use Rattle.duty_core.specs.PrefixLaws.{IsFront, no_duty, front_rest}
-use Rattle.duty_core.specs.LostFrontLaws.{places_less, places_more, front_run, front_lost}
+use Rattle.duty_core.specs.LostFrontLaws.{places_less, places_more, front_lost}
 use Rattle.duty_core.specs.AuFrontLaws.{front_duty_less, front_holds, front_start, front_nights, front_two_nights}
 use Rattle.duty_core.specs.RuleLaws.{us_window14_is_rule, us_drive11_is_rule, us_break8_is_rule, us_week_is_rule, ca_day13_is_rule, ca_day14_is_rule, ca_shift13_is_rule, ca_shift14_is_rule, ca_elapsed16_is_rule, ca_24in14_is_rule, ca_cycle_is_rule, ca_70without24_is_rule}
 
@@ -170,7 +169,7 @@ ca_pair_alike h a b c d l m r = record { sum = r.sum; berth = berth_alike h m r.
 -- # Lost minutes
 
 -- where no place from n on passes, no more pass than below n
-places_stop : (a : ℕ → Bool) (n m : ℕ) → ((k : ℕ) → n ≤ k → a k ≡ false) → places a m ≤ places a n
+pub places_stop : (a : ℕ → Bool) (n m : ℕ) → ((k : ℕ) → n ≤ k → a k ≡ false) → places a m ≤ places a n
 places_stop a n zero h = omega arith
 places_stop a n (suc m) h = elim (cases_lt m n) [
   | inl l ↦ places_more a (suc m) n (omega arith)
@@ -178,7 +177,7 @@ places_stop a n (suc m) h = elim (cases_lt m n) [
 ]
 
 -- no minute of the rest at the end is lost
-head_kept : {n : ℕ} {p q : List Activity} → IsHead n p q → (k : ℕ) → n ≤ k → is_lost p k ≡ false
+pub head_kept : {n : ℕ} {p q : List Activity} → IsHead n p q → (k : ℕ) → n ≤ k → is_lost p k ≡ false
 head_kept {n} {p} {q} h k l = elim (cases_Bool (is_lost p k)) [
   | inr f ↦ f
   | inl t ↦ elim (lost_means p k t) [
@@ -187,7 +186,7 @@ head_kept {n} {p} {q} h k l = elim (cases_Bool (is_lost p k)) [
   ]
 ]
 
-and_false : (x y : Bool) → y ≡ false → (x && y) ≡ false
+pub and_false : (x y : Bool) → y ≡ false → (x && y) ≡ false
 and_false true y e = e
 and_false false y e = refl
 
@@ -205,24 +204,6 @@ head_lost {n} {p} {q} h day j =
     omega arith
 
 -- # Marks
-
--- a mark of the minute `at` names a rest run of p
-pub record NamesRun (params : Params) (first : ℕ) (p : List Activity) (at : ℕ) : Type 0 where
-  pub from : ℕ
-  pub to : ℕ
-  pub minute : IsMinuteOf params first at from
-  pub run : IsRun p from to
-
--- a day loses more minutes than a day may that is in no deferral
-pub record IsLostDay (day : ℕ → ℕ) (p : List Activity) (date : ℤ) : Type 0 where
-  pub number : ℕ
-  pub numbered : IsNumberOfDay date number
-  pub least : CA_LOST_LIMIT < lost day p number
-
--- the mark stands for something in p: a rest run, or a day that loses too many minutes
-abbrev pub StandsIn : Params → ℕ → List Activity → Mark → Type 0
-StandsIn params first p (SplitRest at) = NamesRun params first p at
-StandsIn params first p (DeferDay date) = IsLostDay (day_number params first) p date
 
 -- two places of one minute are one
 pub minute_place : (params : Params) (first at i j : ℕ) → IsMinuteOf params first at i → IsMinuteOf params first at j → i ≡ j

@@ -20,6 +20,7 @@ pub mod CaCycle
 pub mod AuPeriods
 pub mod AuNights
 pub mod RuleBooks
+pub mod RuleNames
 pub mod Implies
 pub mod PlainlyBetter
 pub mod DayLaws
@@ -31,6 +32,10 @@ pub mod CountLaws
 pub mod AuFrontLaws
 pub mod LostFrontLaws
 pub mod ExistLaws
+pub mod MarkMeaning
 pub mod MarkListLaws
 pub mod FrontLaws
 pub mod BookLaws
+pub mod RestLaws
+pub mod MarkLaws
+pub mod CountBaseLaws

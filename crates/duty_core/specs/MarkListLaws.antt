@@ -1,6 +1,6 @@
 -- Lists of marks: their order leaves one list with the same members, and the marks of a list that pass a fact are a list in order.
 use Rattle.std.proofs.Common.{◌≡◌, ℕ, ◌<◌, List, [], ◌∷◌, length, sym, refl, ◌∙◌, ap, subst, arith, inl, inr, ◌⊎◌, zero, suc, get_or}
-use Rattle.std.specs.Prelude.{◌<ℤ◌, Contains, AllPairs, All}
+use Rattle.std.specs.Prelude.{◌<ℤ◌, Contains, AllPairs}
 use Rattle.std.proofs.lemmas.Int.{ints}
 use Rattle.std.proofs.lemmas.List.Elements.{Contains-get_or}
 use Rattle.std.proofs.lemmas.List.Kept.{AllPairs-cons}
@@ -14,10 +14,10 @@ use Rattle.duty_core.specs.Marks.{mark_minute, AreInOrder, AreMarks}
 pub no_member : {X : Type 0} (x : X) → Contains [] x → ⊥
 no_member x c = let l = c.1 in absurd (omega arith)
 
-contains_head : {X : Type 0} (x : X) (xs : List X) → Contains (x ∷ xs) x
+pub contains_head : {X : Type 0} (x : X) (xs : List X) → Contains (x ∷ xs) x
 contains_head x xs = (0, omega arith, refl)
 
-contains_behind : {X : Type 0} (x : X) (xs : List X) (y : X) → Contains xs y → Contains (x ∷ xs) y
+pub contains_behind : {X : Type 0} (x : X) (xs : List X) (y : X) → Contains xs y → Contains (x ∷ xs) y
 contains_behind x xs y c = let l = c.1 in (suc c.0, omega arith, c.2)
 
 contains_at : {X : Type 0} (x : X) (xs : List X) (y : X) (k : ℕ) → k < length (x ∷ xs) → get_or (x ∷ xs) k y ≡ y → (x ≡ y) ⊎ Contains xs y
@@ -25,7 +25,7 @@ contains_at x xs y zero l e = inl e
 contains_at x xs y (suc k) l e = inr (k, omega arith, e)
 
 -- a member is the first one or one of the others
-contains_cases : {X : Type 0} (x : X) (xs : List X) (y : X) → Contains (x ∷ xs) y → (x ≡ y) ⊎ Contains xs y
+pub contains_cases : {X : Type 0} (x : X) (xs : List X) (y : X) → Contains (x ∷ xs) y → (x ≡ y) ⊎ Contains xs y
 contains_cases x xs y c = contains_at x xs y c.0 c.1 c.2
 
 -- # Order
@@ -66,9 +66,9 @@ same_list R way (x ∷ xs) [] g h f b = absurd (no_member x (f x (contains_head 
 same_list R way (x ∷ xs) (y ∷ ys) g h f b =
     let e : x ≡ y = same_head R way x xs y ys g h (f x (contains_head x xs)) (b y (contains_head y ys)) in
     let t : xs ≡ ys =
-        same_list R way xs ys (pairs_tail R x xs g) (pairs_tail R y ys h)
-        (λ z c. same_tail R way x xs y ys g e z c (f z (contains_behind x xs z c)))
-        (λ z c. same_tail R way y ys x xs h (sym e) z c (b z (contains_behind y ys z c))) in
+    same_list R way xs ys (pairs_tail R x xs g) (pairs_tail R y ys h)
+    (λ z c. same_tail R way x xs y ys g e z c (f z (contains_behind x xs z c)))
+    (λ z c. same_tail R way y ys x xs h (sym e) z c (b z (contains_behind y ys z c))) in
     cc
 
 -- # The members of a list of which a fact holds

@@ -3,6 +3,7 @@
 #![tactic(auto)]
 
 mod activity;
+mod laws;
 mod limits;
 mod mark;
 mod memory;
@@ -10,6 +11,10 @@ mod params;
 mod rule;
 
 pub use activity::{Activity, is_duty, is_rest};
+pub use laws::{
+    counts_have_one_base, deferral_leaves_no_choice, empty_is_lawful, front_is_lawful,
+    full_rest_is_not_split, marks_name_what_is_there, order_fixes_marks, rest_behind_is_lawful,
+};
 pub use limits::{
     AU_5H30_DUTY, AU_5H30_PERIOD, AU_7D_DUTY, AU_7D_PERIOD, AU_7D_REST, AU_8H_DUTY, AU_8H_PERIOD,
     AU_11H_DUTY, AU_11H_PERIOD, AU_14D_DUTY, AU_14D_NIGHTS, AU_14D_PERIOD, AU_24H_DUTY,

@@ -1,4 +1,6 @@
 //! The rules of the three books, by name.
+ghost use Rattle.duty_core.specs.RuleNames.{rule_name};
+ghost use Rattle.std.specs.Prelude.{◌≡◌};
 
 /// A rule of a book, in the order of the books.
 #[derive(Clone, Copy, Debug, PartialEq, Eq)]
@@ -55,4 +57,39 @@ pub enum Rule {
     Au14d,
     /// AU-14D-NIGHTS: breaks at night in fourteen days.
     Au14dNights,
+}
+
+impl Rule {
+    /// The rule's name, as reports and answers tell it: `US-WINDOW14`.
+    pub fn name(self) -> &'static str
+        ensures { result.now ≡ rule_name self }
+    {
+        match self {
+            Rule::UsWindow14 => "US-WINDOW14",
+            Rule::UsDrive11 => "US-DRIVE11",
+            Rule::UsBreak8 => "US-BREAK8",
+            Rule::UsWeek => "US-WEEK",
+            Rule::UsPair => "US-PAIR",
+            Rule::CaDay13 => "CA-DAY13",
+            Rule::CaDay14 => "CA-DAY14",
+            Rule::CaShift13 => "CA-SHIFT13",
+            Rule::CaShift14 => "CA-SHIFT14",
+            Rule::CaElapsed16 => "CA-ELAPSED16",
+            Rule::CaOff10 => "CA-OFF10",
+            Rule::CaDefer => "CA-DEFER",
+            Rule::CaPair => "CA-PAIR",
+            Rule::Ca24in14 => "CA-24IN14",
+            Rule::CaCycle => "CA-CYCLE",
+            Rule::Ca70without24 => "CA-70WITHOUT24",
+            Rule::Au5h30 => "AU-5H30",
+            Rule::Au8h => "AU-8H",
+            Rule::Au11h => "AU-11H",
+            Rule::Au24h => "AU-24H",
+            Rule::Au24hRest => "AU-24H-REST",
+            Rule::Au7d => "AU-7D",
+            Rule::Au7dRest => "AU-7D-REST",
+            Rule::Au14d => "AU-14D",
+            Rule::Au14dNights => "AU-14D-NIGHTS",
+        }
+    }
 }

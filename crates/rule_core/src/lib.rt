@@ -4,10 +4,12 @@
 
 mod book;
 mod nexts;
+mod numbers;
 mod over_log;
 mod roots;
 
 pub use book::RuleBook;
 pub use nexts::{Idles, Next, Nexts};
+pub use numbers::Numbers;
 pub use over_log::{Replayed, replay};
 pub use roots::{Root, Roots};

@@ -1,10 +1,7 @@
 -- Two histories with marks that are alike below a place: one list of units, and each run that ends there is marked in both or in neither.
-use Rattle.std.proofs.Common.{◌≡◌, ℕ, ◌+◌, ◌-◌, ◌<◌, ◌≤◌, Bool, true, List, [], ◌∷◌, ◌++◌, length, take, sym, ◌∙◌, ap, arith, ◌⊎◌, inl, inr}
-use Rattle.std.proofs.lemmas.Bool.{cases_lt}
+use Rattle.std.proofs.Common.{ℕ, ◌<◌, ◌≤◌, List, ◌++◌, length, sym, ◌∙◌, arith, inl, inr}
 use Rattle.duty_core.specs.declared.activity.Activity.{Activity}
-use Rattle.duty_core.specs.Activity.{rests}
-use Rattle.duty_core.specs.History.{unit_at}
-use Rattle.duty_core.specs.RestRun.{IsRun, IsLongRun}
+use Rattle.duty_core.specs.RestRun.{IsRun}
 use Rattle.duty_core.specs.Stretch.{IsBerth, HoldsBerth}
 use Rattle.duty_core.specs.DeclaredRest.{IsSplitRest, IsDeclared, IsLastDeclared, IsNextDeclared, IsWaiting}
 use Rattle.duty_core.specs.Base.{IsBase}

@@ -1,17 +1,16 @@
 -- Each choice at a unit, by the end that it gives the run in progress, and paths of choices.
 use Rattle.std.proofs.Common.{◌≡◌, ℕ, ◌+◌, ◌-◌, ◌<◌, ◌≤◌, Bool, true, false, cond, List, [], ◌∷◌, ◌++◌, length, refl, sym, ◌∙◌, ap, subst, arith, append_assoc, add-zero, ◌⊎◌, inl, inr}
-use Rattle.std.specs.Prelude.{Option, None, Some, nat_lt, nat_le, nat_eq, ◌&&◌, if◌then◌else◌, Contains}
+use Rattle.std.specs.Prelude.{None, Some, nat_lt, nat_le, nat_eq, ◌&&◌, if◌then◌else◌, Contains}
 use Rattle.std.proofs.lemmas.Bool.{cases_lt}
 use Rattle.std.proofs.lemmas.Bool.Decides.{nat_tests}
 use Rattle.std.proofs.lemmas.List.Elements.{Contains-append_left, Contains-append_right, Contains-append_cases}
 use Rattle.duty_core.specs.declared.activity.Activity.{Activity}
-use Rattle.duty_core.specs.declared.limits.TheConstants.{COUNT_LIMIT}
 use Rattle.duty_core.specs.Activity.{rests, drives}
 use Rattle.sleeper_split.specs.declared.rule.SplitRule.{SplitRule}
 use Rattle.sleeper_split.specs.declared.count.SplitCount.{SplitCount}
 use Rattle.sleeper_split.specs.Machine.{made, no_run, after_rest, after_duty, may_pair, may_split, split_count, rested_count, end_undeclared, end_split, end_full}
 use Rattle.sleeper_split.specs.Choices.{Choice, choice, sleeps, at_duty, behind_run, run_choices, choices, declared, Declares}
-use Rattle.sleeper_split.specs.Growth.{contains_none, contains_one, contains_head, contains_cases}
+use Rattle.sleeper_split.specs.Growth.{contains_none, contains_one, contains_head}
 use Rattle.sleeper_split.specs.Limits.{and_left, and_right, and_both, below, upto, same, is_below, is_upto, is_same}
 
 -- # Kinds of choice

@@ -1,9 +1,9 @@
 -- The rules of the United States and of Canada: their pairs and split rests are those of the two rules here.
-use Rattle.std.proofs.Common.{◌≡◌, ◌↔◌, ℕ, ◌+◌, ◌-◌, ◌<◌, ◌≤◌, Bool, true, false, List, refl, sym, ◌∙◌, arith, ◌⊎◌, inl, inr}
+use Rattle.std.proofs.Common.{◌≡◌, ◌↔◌, ℕ, Bool, true, false, List, refl, arith}
 use Rattle.std.specs.Prelude.{nat_le, ◌&&◌}
 use Rattle.duty_core.specs.declared.activity.Activity.{Activity}
 use Rattle.duty_core.specs.declared.params.Params.{Params}
-use Rattle.duty_core.specs.declared.params.Params.TheVariants.{UsProperty, Canada, Hvnl}
+use Rattle.duty_core.specs.declared.params.Params.TheVariants.{Canada}
 use Rattle.duty_core.specs.declared.params.RestWay.{RestWay}
 use Rattle.duty_core.specs.declared.params.RestWay.TheVariants.{Split, Defer}
 use Rattle.duty_core.specs.declared.limits.TheConstants.{US_FULL_REST, US_SPLIT_LEAST, US_WINDOW_LIMIT, US_DRIVING_LIMIT, CA_FULL_REST, CA_SPLIT_LEAST, CA_SHIFT_DRIVING_LIMIT, CA_SHIFT_DUTY_LIMIT, CA_ELAPSED_LIMIT}
@@ -13,7 +13,6 @@ use Rattle.duty_core.specs.DeclaredRest.{ArePairedAt, IsSplittable}
 use Rattle.duty_core.specs.UsRules.{IsUsPair, MeetsUsWindow14, MeetsUsDrive11}
 use Rattle.duty_core.specs.CaShift.{IsCaPair, IsSplitWay, MeetsCaShift13, MeetsCaShift14, MeetsCaElapsed16}
 use Rattle.sleeper_split.specs.declared.rule.TheConstants.SplitRule.{US, CANADA}
-use Rattle.sleeper_split.specs.declared.rule.SplitRule.{SplitRule}
 use Rattle.sleeper_split.specs.declared.count.Since.TheVariants.{Driving, Duty, Elapsed}
 use Rattle.sleeper_split.specs.Machine.{used_of}
 use Rattle.sleeper_split.specs.Limits.{elapsed_limit, driving_limit, duty_limit, both_limits}

@@ -1,17 +1,16 @@
 -- The counts allow exactly the histories whose split rests are such, make pairs, and keep the limits.
-use Rattle.std.proofs.Common.{◌≡◌, ◌↔◌, ℕ, ◌+◌, ◌-◌, ◌<◌, ◌≤◌, Bool, true, false, cond, List, [], ◌∷◌, ◌++◌, length, refl, sym, ◌∙◌, ap, subst, arith, length-append, append_assoc, append-nil, add-zero, ◌⊎◌, inl, inr}
-use Rattle.std.specs.Prelude.{Option, None, Some, nat_lt, nat_le, nat_eq, ◌&&◌, replicate, Contains, AllPairs}
+use Rattle.std.proofs.Common.{◌≡◌, ◌↔◌, ℕ, ◌+◌, ◌-◌, ◌<◌, ◌≤◌, Bool, true, false, cond, List, [], ◌∷◌, ◌++◌, length, refl, sym, ◌∙◌, ap, subst, arith, length-append, append_assoc, append-nil, inl, inr}
+use Rattle.std.specs.Prelude.{nat_lt, nat_le, ◌&&◌, replicate, Contains}
 use Rattle.std.proofs.lemmas.Bool.{cases_lt}
 use Rattle.std.proofs.lemmas.List.{length-replicate}
-use Rattle.std.proofs.lemmas.List.Elements.{Contains-append_left, Contains-append_right, Contains-append_cases}
+use Rattle.std.proofs.lemmas.List.Elements.{Contains-append_right, Contains-append_cases}
 use Rattle.duty_core.specs.declared.activity.Activity.{Activity}
 use Rattle.duty_core.specs.declared.activity.Activity.TheVariants.{Drive, Serve, Wait, Off, Berth}
-use Rattle.duty_core.specs.declared.limits.TheConstants.{COUNT_LIMIT, PADDING_MINUTES}
+use Rattle.duty_core.specs.declared.limits.TheConstants.{COUNT_LIMIT}
 use Rattle.duty_core.specs.Activity.{rests, drives}
 use Rattle.duty_core.specs.History.{unit_at}
 use Rattle.duty_core.specs.RestRun.{IsRun}
-use Rattle.duty_core.specs.Stretch.{IsBerth}
-use Rattle.duty_core.specs.DeclaredRest.{IsSplitRest, IsDeclared, IsSplittable, ArePairedAt}
+use Rattle.duty_core.specs.DeclaredRest.{ArePairedAt}
 use Rattle.duty_core.specs.HistoryLaws.{AreAlike, alike_back, alike_append, unit_at-append, unit_at-last, unit_at-past, unit_at-behind, unit_at-replicate, length-one_more}
 use Rattle.duty_core.specs.RunLaws.{EndsIn, ends_padding, ends_rest, ends_duty, run_alike, run_inside, run_ends}
 use Rattle.sleeper_split.specs.declared.rule.BerthRule.{BerthRule}
@@ -20,13 +19,13 @@ use Rattle.sleeper_split.specs.declared.rule.SplitRule.{SplitRule}
 use Rattle.sleeper_split.specs.declared.count.OpenRun.{OpenRun}
 use Rattle.sleeper_split.specs.declared.count.SplitCount.{SplitCount}
 use Rattle.sleeper_split.specs.Machine.{after_rest, after_duty, may_pair, has_split_berth, may_split, split_count, rested_count, fresh_count}
-use Rattle.sleeper_split.specs.Choices.{Choice, choice, sleeps, choices, declared, Declares}
-use Rattle.sleeper_split.specs.Alike.{AreMarkedAlike, marked_back, marked_append, split_marked, declared_marked, next_marked, run_of, berth_alike, holds_berth_alike}
-use Rattle.sleeper_split.specs.Growth.{From, contains_none, contains_one, contains_head, contains_tail, contains_cases, from_less, from_least, from_append, increasing, from_increasing, run_before, ends_unique, marked_fence}
-use Rattle.sleeper_split.specs.Tracks.{IsLongest, IsStretch, IsFresh, IsCounted, Tracks}
+use Rattle.sleeper_split.specs.Choices.{Choice, choice, sleeps, declared, Declares}
+use Rattle.sleeper_split.specs.Alike.{AreMarkedAlike, marked_back, marked_append, split_marked, next_marked, run_of, berth_alike, holds_berth_alike}
+use Rattle.sleeper_split.specs.Growth.{From, contains_none, contains_one, contains_head, contains_tail, from_less, from_append, increasing, from_increasing, run_before, ends_unique, marked_fence}
+use Rattle.sleeper_split.specs.Tracks.{IsStretch, Tracks}
 use Rattle.sleeper_split.specs.TrackLaws.{run_counted, none_unmarked, tracks_rest, tracks_undeclared, is_full, tracks_full, is_split, tracks_split, marked_split}
 use Rattle.sleeper_split.specs.Limits.{and_left, and_right, and_both, below, upto, is_below, is_upto, all_means, all_from, pair_means, pair_from}
-use Rattle.sleeper_split.specs.ChoiceLaws.{fits, IsAtRest, IsUndeclared, IsAsSplit, IsAsFull, IsChoice, choice_cases, is_choice}
+use Rattle.sleeper_split.specs.ChoiceLaws.{IsAsSplit, IsChoice, choice_cases, is_choice}
 use Rattle.sleeper_split.specs.Exact.{IsSplitRule, IsPairBerth, IsPairOf, IsSplitBerth, MaySplit, IsLimit, KeepsSplits}
 
 -- # What is asked at a place

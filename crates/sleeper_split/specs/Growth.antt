@@ -1,8 +1,8 @@
 -- Marks behind a fence, the run in progress, and one more unit.
-use Rattle.std.proofs.Common.{◌≡◌, ℕ, ◌+◌, ◌-◌, ◌<◌, ◌≤◌, Bool, true, false, List, [], ◌∷◌, ◌++◌, length, refl, sym, ◌∙◌, ap, subst, arith, ◌⊎◌, inl, inr, zero, suc}
+use Rattle.std.proofs.Common.{◌≡◌, ℕ, ◌+◌, ◌-◌, ◌<◌, ◌≤◌, true, false, List, [], ◌∷◌, ◌++◌, length, refl, sym, ◌∙◌, ap, arith, ◌⊎◌, inl, inr, zero, suc}
 use Rattle.std.specs.Prelude.{Contains, AllPairs, All, get_or}
 use Rattle.std.proofs.lemmas.Bool.{cases_lt}
-use Rattle.std.proofs.lemmas.List.Elements.{All-contains, All-cons, All-head, All-tail, Contains-append_left, Contains-append_right, Contains-append_cases, Contains-push_cases, Contains-push}
+use Rattle.std.proofs.lemmas.List.Elements.{All-contains, Contains-append_left, Contains-append_right, Contains-append_cases, Contains-push_cases}
 use Rattle.std.proofs.lemmas.List.Kept.{AllPairs-cons}
 use Rattle.duty_core.specs.declared.activity.Activity.{Activity}
 use Rattle.duty_core.specs.Activity.{rests}
@@ -67,7 +67,7 @@ from_increasing n [] least h = tt
 from_increasing n (x ∷ xs) least h = (
   least x (contains_head x xs),
   from_increasing (x + 1) xs (λ a i. let z = All-contains (λ b. x < b) xs a (λ k d l. h 0 (suc k) d (omega arith) (omega arith)) i in omega arith)
-  (λ i j d l k. h (suc i) (suc j) d (omega arith) (omega arith)),
+      (λ i j d l k. h (suc i) (suc j) d (omega arith) (omega arith)),
 )
 
 -- # The run in progress

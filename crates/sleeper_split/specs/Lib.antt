@@ -9,3 +9,8 @@ pub mod Limits
 pub mod ChoiceLaws
 pub mod ExactLaws
 pub mod CountryLaws
+pub mod Laws
+pub mod Covers
+pub mod CoverLaws
+pub mod CoverTests
+pub mod BetterLaws

@@ -1,18 +1,18 @@
 -- The pair condition and the limits, by the counts.
-use Rattle.std.proofs.Common.{◌≡◌, ◌↔◌, ℕ, ◌+◌, ◌-◌, ◌<◌, ◌≤◌, Bool, true, false, List, [], ◌∷◌, ◌++◌, length, drop, take, refl, sym, ◌∙◌, ap, subst, arith, ◌⊎◌, inl, inr}
-use Rattle.std.specs.Prelude.{Option, None, Some, nat_lt, nat_le, nat_eq, ◌&&◌, ◌||◌, count_by}
+use Rattle.std.proofs.Common.{◌≡◌, ℕ, ◌+◌, ◌-◌, ◌<◌, ◌≤◌, Bool, true, false, List, [], ◌∷◌, ◌++◌, length, drop, refl, sym, ◌∙◌, ap, subst, arith, ◌⊎◌, inl, inr}
+use Rattle.std.specs.Prelude.{Option, Some, nat_lt, nat_le, nat_eq, ◌&&◌, ◌||◌, count_by}
 use Rattle.std.proofs.lemmas.List.{take_all}
 use Rattle.std.proofs.lemmas.Bool.{cases_lt}
 use Rattle.std.proofs.lemmas.Bool.Decides.{nat_tests}
 use Rattle.duty_core.specs.declared.activity.Activity.{Activity}
-use Rattle.duty_core.specs.declared.activity.Activity.TheVariants.{Drive, Serve, Wait, Off, Berth}
+use Rattle.duty_core.specs.declared.activity.Activity.TheVariants.{Drive}
 use Rattle.duty_core.specs.declared.limits.TheConstants.{US_PAIR_BERTH}
 use Rattle.duty_core.specs.Activity.{rests, drives, works}
 use Rattle.duty_core.specs.History.{unit_at, between}
 use Rattle.duty_core.specs.Stretch.{IsBerth, HoldsBerth}
 use Rattle.duty_core.specs.Counting.{driving, duty}
-use Rattle.duty_core.specs.DeclaredRest.{IsSplitRest, IsDeclared, IsLastDeclared, IsNextDeclared, IsWaiting, ArePairedAt}
-use Rattle.duty_core.specs.Base.{IsFullBase, IsSplitBase, IsBase, elapsed}
+use Rattle.duty_core.specs.DeclaredRest.{IsDeclared, IsLastDeclared, IsWaiting, ArePairedAt}
+use Rattle.duty_core.specs.Base.{IsBase, elapsed}
 use Rattle.duty_core.specs.HistoryLaws.{AreAlike, unit_at-last, length-one_more}
 use Rattle.duty_core.specs.RunLaws.{EndsIn, run_inside}
 use Rattle.duty_core.specs.UniqueLaws.{last_declared_end, last_declared_start}
@@ -24,12 +24,12 @@ use Rattle.sleeper_split.specs.declared.count.OpenRun.{OpenRun}
 use Rattle.sleeper_split.specs.declared.count.WaitingRest.{WaitingRest}
 use Rattle.sleeper_split.specs.declared.count.Since.TheVariants.{Driving, Duty, Elapsed}
 use Rattle.sleeper_split.specs.declared.count.SplitCount.{SplitCount}
-use Rattle.sleeper_split.specs.Machine.{has_pair_berth, may_pair, has_split_berth, used_of}
-use Rattle.sleeper_split.specs.Alike.{AreMarkedAlike, marked_back, split_marked, declared_marked, last_marked, run_of, base_marked, berth_alike, holds_berth_alike}
+use Rattle.sleeper_split.specs.Machine.{has_pair_berth, may_pair, used_of}
+use Rattle.sleeper_split.specs.Alike.{AreMarkedAlike, marked_back, split_marked, declared_marked, last_marked, run_of, base_marked, berth_alike}
 use Rattle.sleeper_split.specs.Growth.{start_of}
-use Rattle.sleeper_split.specs.Tracks.{IsLongest, IsStretch, IsUsedSince, HasWaiting, HasFull, HasLast, IsFresh, IsCounted, Tracks}
+use Rattle.sleeper_split.specs.Tracks.{IsLongest, IsStretch, IsUsedSince, HasLast, IsCounted, Tracks}
 use Rattle.sleeper_split.specs.TrackLaws.{longest_alike, last_lower, last_at}
-use Rattle.sleeper_split.specs.Exact.{IsSplitRule, IsPairBerth, IsPairOf, IsSplitBerth, IsLimit}
+use Rattle.sleeper_split.specs.Exact.{IsSplitRule, IsPairBerth, IsPairOf, IsLimit}
 
 -- # Tests
 

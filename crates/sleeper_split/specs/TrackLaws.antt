@@ -1,17 +1,16 @@
 -- What a count says of the history stays so, unit by unit.
-use Rattle.std.proofs.Common.{◌≡◌, ℕ, ◌+◌, ◌-◌, ◌<◌, ◌≤◌, Bool, true, false, List, [], ◌∷◌, ◌++◌, length, drop, refl, sym, ◌∙◌, ap, subst, cond, arith, zero-add, ◌⊎◌, inl, inr}
-use Rattle.std.specs.Prelude.{Option, None, Some, max, count_by, Contains, replicate}
+use Rattle.std.proofs.Common.{◌≡◌, ℕ, ◌+◌, ◌-◌, ◌<◌, ◌≤◌, Bool, true, false, List, [], ◌∷◌, ◌++◌, length, drop, refl, sym, ◌∙◌, ap, subst, cond, arith, zero-add, inl, inr}
+use Rattle.std.specs.Prelude.{Option, None, Some, max, count_by, Contains}
 use Rattle.std.proofs.Math.Seq.{drop-length}
 use Rattle.std.proofs.lemmas.Bool.{cases_lt}
 use Rattle.std.proofs.lemmas.List.{drop-append-le, length-drop}
 use Rattle.std.proofs.lemmas.List.Sums.{sum_by-append, count_by-le-length}
-use Rattle.std.proofs.lemmas.List.Elements.{Contains-append_right, Contains-append_cases}
 use Rattle.duty_core.specs.declared.activity.Activity.{Activity}
 use Rattle.duty_core.specs.declared.activity.Activity.TheVariants.{Drive, Serve, Wait, Off, Berth}
 use Rattle.duty_core.specs.declared.limits.TheConstants.{COUNT_LIMIT}
 use Rattle.duty_core.specs.Activity.{rests, drives, works}
 use Rattle.duty_core.specs.History.{unit_at}
-use Rattle.duty_core.specs.RestRun.{IsRun, IsLongRun}
+use Rattle.duty_core.specs.RestRun.{IsLongRun}
 use Rattle.duty_core.specs.Stretch.{IsBerth}
 use Rattle.duty_core.specs.DeclaredRest.{IsSplitRest, IsDeclared, IsLastDeclared}
 use Rattle.duty_core.specs.HistoryLaws.{AreAlike, unit_at-append, unit_at-last, length-one_more}
@@ -23,8 +22,8 @@ use Rattle.sleeper_split.specs.declared.count.SplitCount.{SplitCount}
 use Rattle.sleeper_split.specs.Machine.{made, no_run, none_used, one_more, rested, after_rest, worked, after_duty, without_run, split_count, rested_count}
 use Rattle.sleeper_split.specs.Choices.{sleeps}
 use Rattle.sleeper_split.specs.Alike.{AreMarkedAlike, marked_back, marked_append, split_marked, declared_marked, last_marked, run_of, berth_alike}
-use Rattle.sleeper_split.specs.Growth.{From, contains_one, run_before, start_of, marked_fence}
-use Rattle.sleeper_split.specs.Tracks.{IsLongest, IsStretch, IsUsedSince, HasWaiting, HasFull, HasLast, IsFresh, IsCounted, Tracks}
+use Rattle.sleeper_split.specs.Growth.{run_before, start_of, marked_fence}
+use Rattle.sleeper_split.specs.Tracks.{IsLongest, IsStretch, IsUsedSince, HasLast, IsCounted, Tracks}
 
 -- # Counts
 

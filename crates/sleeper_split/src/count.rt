@@ -1,5 +1,6 @@
 //! What is counted of a history for full rests, split rests and pairs.
 ghost use Rattle.std.specs.Prelude.{◌≡◌, ◌<◌, ◌≤◌, ◌↔◌, true, IsNone, IsSome, IfSome};
+ghost use Rattle.sleeper_split.specs.Covers.{is_within};
 ghost use Rattle.sleeper_split.specs.Machine.{IsSplitCount, IsOpenRun, IsUsed, IsWithin, IsWaitingRest, IsNoSplit, IsNoFull, fresh_count, made, after_rest, after_duty, end_undeclared, end_split, end_full, used_of, run_of, may_pair, longer, rested, worked, one_more, has_split_berth, has_pair_berth};
 
 use crate::rule::{BerthRule, SplitRule};
@@ -232,6 +233,7 @@ impl SplitCount {
     ) -> Option<SplitCount>
         ensures some { IsSome result ↔ IsSplitCount (made run base last waiting) }
         ensures parts { IfSome result (λ s. s ≡ made run base last waiting) }
+        ensures kept { IfSome result IsSplitCount }
     {
         let behind = run.is_kept() && base.is_kept() && last.is_kept() && run.long <= last.elapsed;
         let later = last.is_within(base) && is_kept(waiting);
@@ -244,7 +246,7 @@ impl SplitCount {
     }
 
     /// Whether the run in progress and the split rest that waits, if any, are a pair.
-    fn may_pair(self, rule: SplitRule) -> bool
+    pub(crate) fn may_pair(self, rule: SplitRule) -> bool
         requires good { IsSplitCount self }
         ensures { result ≡ may_pair rule self.waiting self.run }
     {
@@ -273,7 +275,7 @@ impl OpenRun {
     }
 
     /// Whether the time in the berth serves for a split rest.
-    fn may_wait(self, berth: BerthRule) -> bool
+    pub(crate) fn may_wait(self, berth: BerthRule) -> bool
         ensures { result ≡ has_split_berth berth self }
     {
         match berth {
@@ -283,7 +285,7 @@ impl OpenRun {
     }
 
     /// Whether the time in the berth serves for a pair with an earlier split rest.
-    fn pairs(self, berth: BerthRule, rest: WaitingRest) -> bool
+    pub(crate) fn pairs(self, berth: BerthRule, rest: WaitingRest) -> bool
         ensures { result ≡ has_pair_berth berth rest self }
     {
         match berth {
@@ -336,8 +338,9 @@ impl Used {
     }
 
     /// Whether no count is more than that of `other`.
-    fn is_within(self, other: Used) -> bool
-        ensures { (result ≡ true) ↔ IsWithin self other }
+    pub(crate) fn is_within(self, other: Used) -> bool
+        ensures relation { (result ≡ true) ↔ IsWithin self other }
+        ensures test { result ≡ is_within self other }
     {
         self.driving <= other.driving && self.duty <= other.duty && self.elapsed <= other.elapsed
     }

@@ -3,7 +3,15 @@
 #![tactic(auto)]
 
 mod count;
+mod covers;
+mod laws;
 mod rule;
+#[cfg(test)]
+mod tests;
 
 pub use count::{OpenRun, Since, SplitCount, Used, WaitingRest};
+pub use laws::{
+    is_exact_in_canada, is_exact_in_united_states, is_told_by_places, rests_safely,
+    stands_for_plainly_worse, stands_in_order, stands_on, tells_of_history,
+};
 pub use rule::{BerthRule, SplitRule};

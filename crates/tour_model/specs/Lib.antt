@@ -10,3 +10,4 @@ pub mod WayLaws
 pub mod ServeLaws
 pub mod EtaLaws
 pub mod LengthLaws
+pub mod Layer

@@ -2,6 +2,7 @@
 //! schedules.
 #![tactic(auto)]
 
+mod label;
 mod laws;
 mod limits;
 mod piece;
@@ -12,6 +13,7 @@ mod tests;
 mod tour;
 mod window;
 
+pub use label::Label;
 pub use laws::{ends_by_steps, serves_by_steps};
 pub use limits::{
     DAY_MINUTES, EARLIEST_START, FEWEST_DAYS, FEWEST_STOPS, GRIDS, HVNL_GRIDS, LATEST_START,

@@ -1,13 +1,11 @@
-use Rattle.std.proofs.Common.{◌≡◌, rules, codes}
-use Rattle.driver_cli.proofs.Words.{three_words}
+use Rattle.std.proofs.Common.{◌≡◌, [], ◌∷◌, sym, subst}
+use Rattle.std.specs.Prelude.{MatchOption}
+use Rattle.driver_cli.specs.Command.{IsSentence, IsNoSentence}
+use Rattle.driver_cli.proofs.Words.{five_words}
 use Rattle.driver_cli.proofs.command.request_of.Goals as goal
 
-pub returns-in-len3 : goal.returns-in-len3
-returns-in-len3 c =
-    let e : c.command-item.result ≡ codes "plan" = search rules in
-    three_words c.args.words.now (codes "plan") c.tour-item.result c.log-item.result c.in-len3.len_at_least c.in-len3.len_below (rw (← e) c.command-item.is) c.tour-item.is c.log-item.is
-
-pub returns-in-len3-2 : goal.returns-in-len3-2
-returns-in-len3-2 c =
-    let e : c.command-item-then-words-lt4.result ≡ codes "audit" = search rules in
-    three_words c.args.words.now (codes "audit") c.tour-item-then-words-lt4.result c.log-item-then-words-lt4.result c.in-len3.len_at_least c.in-len3.len_below (rw (← e) c.command-item-then-words-lt4.is) c.tour-item-then-words-lt4.is c.log-item-then-words-lt4.is
+pub returns-in-len5 : goal.returns-in-len5
+returns-in-len5 c =
+    let e = five_words c.args.words.now c.command-item-then-words-lt6.result c.tour-item-then-words-lt6.result c.log-item-then-words-lt6.result c.option-item.result c.value-item.result c.in-len5.len_at_least c.in-len5.len_below
+    c.command-item-then-words-lt6.is c.tour-item-then-words-lt6.is c.log-item-then-words-lt6.is c.option-item.is c.value-item.is in
+    subst (λ ws. MatchOption c.long_request.result (IsNoSentence ws) (λ request. IsSentence ws request.command request.tour.now request.log.now)) (sym e) c.long_request.ensures

@@ -1,19 +1,25 @@
-use Rattle.std.proofs.Common.{◌≡◌, ℕ, ◌+◌, ◌*◌, ◌^◌, ◌<◌, ◌≤◌, List, length, sym, ◌∙◌, subst, arith}
+use Rattle.std.proofs.Common.{◌≡◌, ℕ, ◌+◌, ◌*◌, ◌^◌, ◌<◌, ◌≤◌, List, length, sym, ◌∙◌, ap, subst, arith}
+use Rattle.std.proofs.lemmas.Option.{slice_get_within}
 use Rattle.duty_core.specs.declared.activity.Activity.{Activity}
 use Rattle.duty_core.specs.declared.params.Params.{Params}
 use Rattle.duty_core.specs.Params.{unit_minutes, BeginsUnit}
 use Rattle.rule_core.specs.Machine.{IsMachine}
 use Rattle.rule_core.specs.ReachLaws.{reached_state}
 use Rattle.rule_core.specs.Reach.{IsOneOf}
+use Rattle.rule_core.specs.Replay.{AreRootsOf}
 use Rattle.tour_model.specs.declared.tour.Tour.{Tour}
-use Rattle.tour_model.specs.Schedule.{log_start, IsShortest}
+use Rattle.tour_model.specs.Schedule.{log_start, IsSolutionWith, IsShortest}
+use Rattle.tour_model.specs.Layer.{layer_at}
 use Rattle.tour_model.specs.LengthLaws.{begins_sooner}
-use Rattle.driver_cli.specs.declared.plan.TheConstants.{BUDGET}
-use Rattle.driver_cli.specs.Layers.{label_count}
-use Rattle.driver_cli.specs.Planning.{minute_of}
-use Rattle.driver_cli.proofs.PlanLaws.{log_ends, found_shortest, never_solved, labels_reached}
+use Rattle.label_state.specs.Path.{HaveParents, path_of}
+use Rattle.label_search.specs.Sound.{IsSound}
+use Rattle.label_search.specs.Searched.{IsAnswer, IsWithin, layers_of}
+use Rattle.cert_text.specs.Planning.{minute_of, problem_of, state_at, IsLogState}
+use Rattle.cert_text.specs.SolutionLaws.{log_ends}
+use Rattle.driver_cli.proofs.Rebuilt.{sound_parents}
 use Rattle.driver_cli.proofs.plan.plan_by.Given.{Over}
 use Rattle.driver_cli.proofs.plan.plan_by.Goals as goal
+use Rattle.driver_cli.proofs.plan.plan_by.Goals.{In_ok-layers}
 
 -- the book's laws at this first minute, as the lemmas take them
 machine : (g : Over) (book : g.row.B.Denot) (params : Params) (first : ℕ) → g.B.RuleBook.params_of book ≡ params → BeginsUnit params first →
@@ -51,43 +57,60 @@ search-requires-clause-roots g c root o =
 pub search-requires-clause-few : goal.search-requires-clause-few
 search-requires-clause-few g c = subst (λ rs. length rs < 2 ^ 32) (sym c.items.ensures) c.requires.roots.few
 
+-- what the search answers of this log
+answer_of : (g : _) (c : In_ok-layers g) → IsAnswer (problem_of c.args.tour.now (g.B.RuleBook.advances_of c.args.book.now) (g.B.RuleBook.covering c.args.book.now) (g.B.RuleBook.idles_of c.args.book.now)) (state_at c.args.tour.now (g.B.RuleBook.is_state_at c.args.book.now)) c.args.tour.now c.args.log.now
+    (IsLogState c.args.tour.now c.args.log.now (g.B.RuleBook.root_of c.args.book.now (log_start c.args.tour.now c.args.log.now)) (g.B.RuleBook.nexts_of c.args.book.now)) c.args.roots.now c.args.budget c.in_ok-layers.field-0
+answer_of g c =
+    let answer = rw c.items.ensures at c.in_ok-layers.ensures.answer in
+    answer c.args.log.now c.requires.short c.requires.roots
+
+sound_of : (g : _) (c : In_ok-layers g) → IsSound (problem_of c.args.tour.now (g.B.RuleBook.advances_of c.args.book.now) (g.B.RuleBook.covering c.args.book.now) (g.B.RuleBook.idles_of c.args.book.now)) c.args.roots.now (layers_of c.in_ok-layers.field-0)
+sound_of g c = rw c.items.ensures at c.in_ok-layers.ensures.sound
+
+pub rebuild-requires-clause-parents : goal.rebuild-requires-clause-parents
+rebuild-requires-clause-parents g c =
+    let problem = problem_of c.args.tour.now (g.B.RuleBook.advances_of c.args.book.now) (g.B.RuleBook.covering c.args.book.now) (g.B.RuleBook.idles_of c.args.book.now) in
+    let sound = rw c.in-Found.is at (sound_of g (goal.at.rebuild-requires-clause-parents g c).In_ok-layers) in
+    subst (λ rs. HaveParents (length rs) c.in-Found.layers) (sym c.items-in-Found.ensures) (sound_parents problem c.args.roots.now c.in-Found.layers sound)
+
+pub rebuild-requires-clause-there : goal.rebuild-requires-clause-there
+rebuild-requires-clause-there g c =
+    let found = rw c.in-Found.is at (answer_of g (goal.at.rebuild-requires-clause-there g c).In_ok-layers) in
+    slice_get_within (layer_at c.in-Found.layers c.in-Found.place.layer) c.in-Found.place.index found.best found.there
+
 pub returns-in-Found : goal.returns-in-Found
 returns-in-Found g c =
-    let book = c.args.book.now in
     let tour = c.args.tour.now in
     let log = c.args.log.now in
-    let first = log_start tour log in
-    let found = rw c.items.ensures at (rw c.in-Found.is at c.in_ok-layers.ensures.searched) in
+    let found = rw c.in-Found.is at (answer_of g (goal.at.returns-in-Found g c).In_ok-layers) in
+    let steps = c.in_ok-rebuild-in-Found.ensures.steps in
+    let marks = rw c.items-in-Found.ensures at c.in_ok-rebuild-in-Found.ensures.marks in
     record {
-      planned = subst (IsShortest tour log) (sym c.in_ok-rebuild-in-Found.ensures.path)
-          (found_shortest tour log (g.B.RuleBook.is_state_at book) (g.B.RuleBook.root_of book first) (g.B.RuleBook.nexts_of book) (g.B.RuleBook.advances_of book) (g.B.RuleBook.covering book) (g.B.RuleBook.idles_of book)
-          (machine g book tour.params first c.requires.params (begins tour log c.requires.tour.whole_start)) c.requires.tour c.requires.short c.args.roots.now c.requires.roots
-          c.in-Found.layers c.in-Found.place.layer c.in-Found.place.index found.best found.sound found.there found.finished found.covers);
+      planned = (
+        subst (λ xs. IsSolutionWith tour log xs c.in_ok-rebuild-in-Found.field-0.marks) (sym steps) (subst (IsSolutionWith tour log (path_of c.in-Found.layers c.in-Found.place.layer c.in-Found.place.index)) (sym marks) found.solves),
+        subst (IsShortest tour log) (sym steps) found.shortest,
+      );
     }
 
 pub returns-in-Never : goal.returns-in-Never
 returns-in-Never g c =
-    let book = c.args.book.now in
-    let tour = c.args.tour.now in
-    let log = c.args.log.now in
-    let first = log_start tour log in
-    let never = rw c.items.ensures at (rw c.in-Never.is at c.in_ok-layers.ensures.searched) in
-    record {
-      planned = never_solved tour log (g.B.RuleBook.is_state_at book) (g.B.RuleBook.root_of book first) (g.B.RuleBook.nexts_of book) (g.B.RuleBook.advances_of book) (g.B.RuleBook.covering book) (g.B.RuleBook.idles_of book)
-          (machine g book tour.params first c.requires.params (begins tour log c.requires.tour.whole_start)) c.requires.tour c.requires.short c.args.roots.now c.requires.roots
-          c.in-Never.layers never.sound never.covers;
-    }
+    let never = rw c.in-Never.is at (answer_of g (goal.at.returns-in-Never g c).In_ok-layers) in
+    record { planned = never.infeasible }
 
 pub returns : goal.returns
 returns g c =
-    let book = c.args.book.now in
-    let tour = c.args.tour.now in
-    let log = c.args.log.now in
-    let first = log_start tour log in
-    let spent = rw c.items.ensures at (rw c.in-Spent.is at c.in_ok-layers.ensures.searched) in
-    let many : BUDGET ≤ label_count c.in-Spent.layers = (let e = spent.count in omega arith) in
+    let some = (goal.at.returns g c).In_ok-layers in
+    let spent = rw c.in-Spent.is at (answer_of g some) in
+    let sound = rw c.in-Spent.is at (sound_of g some) in
+    let full = rw c.in-Spent.is at c.in_ok-layers.ensures.within in
     record {
-      planned = labels_reached tour log (g.B.RuleBook.is_state_at book) (g.B.RuleBook.root_of book first) (g.B.RuleBook.nexts_of book) (g.B.RuleBook.advances_of book) (g.B.RuleBook.covering book) (g.B.RuleBook.idles_of book)
-          (machine g book tour.params first c.requires.params (begins tour log c.requires.tour.whole_start)) c.requires.tour c.requires.short c.args.roots.now c.requires.roots
-          c.in-Spent.layers BUDGET spent.sound many;
+      planned = record {
+        roots = c.args.roots.now;
+        reached = λ r o. (r.marks, c.requires.roots.reached r o);
+        layers = c.in-Spent.layers;
+        sound = sound;
+        worked = spent.worked;
+        full = full;
+        many = spent.many;
+      };
     }

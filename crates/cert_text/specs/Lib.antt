@@ -1,0 +1,12 @@
+pub mod Problem
+pub mod Planning
+pub mod Cover
+pub mod Continuation
+pub mod Cert
+pub mod ProblemLaws
+pub mod BetterLaws
+pub mod CoverLaws
+pub mod ProblemOf
+pub mod UnitLaws
+pub mod SolutionLaws
+pub mod ContinuationLaws

@@ -1,0 +1,6 @@
+//! Which labels are kept: those than which none in their layer is better.
+#![tactic(auto)]
+
+mod dominance;
+
+pub use dominance::{Offered, better, offer};

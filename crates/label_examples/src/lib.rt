@@ -1,0 +1,5 @@
+//! Worked examples of the labels' calls, by the book of the United States.
+#![tactic(auto)]
+
+#[cfg(test)]
+mod tests;

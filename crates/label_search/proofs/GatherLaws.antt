@@ -1,0 +1,238 @@
+-- What gathering the labels for a layer comes to.
+use Rattle.std.proofs.Common.{◌≡◌, ℕ, ◌+◌, ◌-◌, ◌<◌, ◌≤◌, Bool, true, false, List, [], ◌∷◌, ◌++◌, length, take, get_or, refl, sym, ◌∙◌, ap, subst, arith, inl, inr, ◌⊎◌}
+use Rattle.std.specs.Prelude.{Option, None, Some, slice_get, nat_le, not}
+use Rattle.std.specs.List.Sorted.{IsPermutation}
+use Rattle.std.proofs.lemmas.List.Sorted.{IsPermutation-sym}
+use Rattle.std.proofs.lemmas.Bool.{cases_lt}
+use Rattle.std.proofs.lemmas.Bool.Decides.{nat_tests}
+use Rattle.std.proofs.lemmas.List.{take_more, take_all}
+use Rattle.std.proofs.lemmas.Option.{slice_get_read}
+use Rattle.duty_core.specs.declared.activity.Activity.TheVariants.{Off}
+use Rattle.rule_core.specs.declared.roots.Root.{Root}
+use Rattle.rule_core.specs.Reach.{IsOneOf}
+use Rattle.rule_core.specs.OneOf.{one_of-append, one_of-append_left, one_of-append_right}
+use Rattle.tour_model.specs.declared.label.Label.{Label}
+use Rattle.tour_model.specs.declared.limits.TheConstants.{STEP_LIMIT}
+use Rattle.cert_text.specs.declared.grown.Grown.{Grown}
+use Rattle.label_state.specs.declared.kept.Kept.{Kept}
+use Rattle.label_state.specs.Layers.{labels_of}
+use Rattle.label_state.specs.LayerLaws.{one_of_labels, label_kept}
+use Rattle.cert_text.specs.Problem.{Problem, root_label, successors_of, later, HasEta}
+use Rattle.cert_text.specs.Cover.{IsAtLeast, IsTooLong, IsLetOff, IsLabelAt}
+use Rattle.label_extend.specs.Growths.{AreGrownAt}
+use Rattle.label_search.specs.Sound.{IsFirst, GrewFrom, StandsBefore, AreOrdered}
+use Rattle.label_search.specs.Searching.{AreLabelsAt, AreSmall, IsGathered, Gathers, AreGathered, AreFirst, is_long, is_useful}
+use Rattle.label_search.proofs.Places.{one_of_permuted}
+
+-- ---- which labels are let off
+
+has_eta_by : {S : Type 0} (problem : Problem S) (limit : Option ℕ) (step : ℕ) (l : Label S) (o : Option ℕ) → problem.eta step l.progress ≡ o → is_useful limit l.depart o ≡ true → HasEta problem step l
+has_eta_by problem limit step l None e u = absurd (let z : false ≡ true = u in cc)
+has_eta_by problem limit step l (Some eta) e u = record { eta = eta; is = e }
+
+pub useful_has_eta : {S : Type 0} (problem : Problem S) (limit : Option ℕ) (step : ℕ) (l : Label S) → is_useful limit l.depart (problem.eta step l.progress) ≡ true → HasEta problem step l
+useful_has_eta problem limit step l u = has_eta_by problem limit step l (problem.eta step l.progress) refl u
+
+beats_at : (limit : Option ℕ) (d e : ℕ) → is_useful limit (Some d) (Some e) ≡ true → IsAtLeast limit (e - d) → ⊥
+beats_at None d e u a = a
+beats_at (Some t) d e u a = let z : not (nat_le t (e - d)) ≡ true = u in let b : t ≤ e - d = a in absurd (let r : e - d < t = grind (arith, nat_tests) in omega arith)
+
+pub useful_beats : {S : Type 0} (problem : Problem S) (limit : Option ℕ) (step : ℕ) (l : Label S) → is_useful limit l.depart (problem.eta step l.progress) ≡ true → IsTooLong problem limit step l → ⊥
+useful_beats problem limit step l u t =
+    beats_at limit t.depart t.eta (subst (λ o. is_useful limit o (Some t.eta) ≡ true) t.departed (subst (λ o. is_useful limit l.depart o ≡ true) t.ends u)) t.long
+
+too_long : {S : Type 0} (problem : Problem S) (limit : Option ℕ) (step : ℕ) (l : Label S) (eta : ℕ) (d : Option ℕ) → problem.eta step l.progress ≡ Some eta → l.depart ≡ d → not (is_long limit d eta) ≡ false → IsTooLong problem limit step l
+too_long problem None step l eta d e f u = absurd (let z : true ≡ false = u in cc)
+too_long problem (Some b) step l eta None e f u = absurd (let z : true ≡ false = u in cc)
+too_long problem (Some b) step l eta (Some d) e f u = record { depart = d; eta = eta; departed = f; ends = e; long = (let z : not (nat_le b (eta - d)) ≡ false = u in let r : b ≤ eta - d = grind (arith, nat_tests) in r) }
+
+let_off_by : {S : Type 0} (problem : Problem S) (limit : Option ℕ) (step : ℕ) (l : Label S) (o : Option ℕ) → problem.eta step l.progress ≡ o → is_useful limit l.depart o ≡ false → IsLetOff problem limit step l
+let_off_by problem limit step l None e u = inl e
+let_off_by problem limit step l (Some eta) e u = inr (too_long problem limit step l eta l.depart e refl u)
+
+pub useless_let_off : {S : Type 0} (problem : Problem S) (limit : Option ℕ) (step : ℕ) (l : Label S) → is_useful limit l.depart (problem.eta step l.progress) ≡ false → IsLetOff problem limit step l
+useless_let_off problem limit step l u = let_off_by problem limit step l (problem.eta step l.progress) refl u
+
+-- ---- the successors of one label
+
+pub gathers_none : {S : Type 0} (problem : Problem S) (limit : Option ℕ) (step place : ℕ) (ls : List (Kept S)) → Gathers problem limit step place [] ls ls
+gathers_none problem limit step place ls = record { only = λ k o. inl o; keeps = λ k o. o; all = λ g o. absurd o }
+
+pub gathers_let_off : {S : Type 0} (problem : Problem S) (limit : Option ℕ) (step place : ℕ) (g : Grown S) (ls : List (Kept S)) → IsLetOff problem limit step g.label → Gathers problem limit step place (g ∷ []) ls ls
+gathers_let_off problem limit step place g ls off = record {
+  only = λ k o. inl o;
+  keeps = λ k o. o;
+  all = λ m o. elim o [ inl e ↦ inl (subst (λ n. IsLetOff problem limit step n.label) e off) | inr z ↦ absurd z ];
+}
+
+pub gathers_pushed : {S : Type 0} (problem : Problem S) (limit : Option ℕ) (step place : ℕ) (g : Grown S) (ls : List (Kept S)) → is_useful limit g.label.depart (problem.eta step g.label.progress) ≡ true →
+    Gathers problem limit step place (g ∷ []) ls (ls ++ (record { label = g.label; parent = place; act = g.act; mark = g.mark }) ∷ [])
+gathers_pushed {S} problem limit step place g ls u =
+    let k : Kept S = record { label = g.label; parent = place; act = g.act; mark = g.mark } in
+    record {
+      only = λ m o. elim (one_of-append ls (k ∷ []) m o) [
+        | inl a ↦ inl a
+        | inr q ↦ elim q [
+          | inl f ↦ inr (subst (λ j. IsGathered problem limit step place (g ∷ []) j) f (record { parent = refl; grown = inl refl; has_eta = useful_has_eta problem limit step g.label u; beats = useful_beats problem limit step g.label u }))
+          | inr z ↦ absurd z
+        ]
+      ];
+      keeps = λ m o. one_of-append_left ls (k ∷ []) m o;
+      all = λ m o. elim o [
+        | inl f ↦ inr (subst (λ n. IsOneOf (labels_of (ls ++ k ∷ [])) n.label) f (one_of_labels (ls ++ k ∷ []) k (one_of-append_right ls (k ∷ []) k (inl refl))))
+        | inr z ↦ absurd z
+      ];
+    }
+
+labels_keep : {S : Type 0} (a b : List (Kept S)) → ((k : Kept S) → IsOneOf a k → IsOneOf b k) → (l : Label S) → IsOneOf (labels_of a) l → IsOneOf (labels_of b) l
+labels_keep a b keeps l o = let q = label_kept a l o in subst (IsOneOf (labels_of b)) q.2 (one_of_labels b q.0 (keeps q.0 q.1))
+
+pub gathers_on : {S : Type 0} (problem : Problem S) (limit : Option ℕ) (step place : ℕ) (gs hs : List (Grown S)) (a b c : List (Kept S)) →
+    Gathers problem limit step place gs a b → Gathers problem limit step place hs b c → Gathers problem limit step place (gs ++ hs) a c
+gathers_on problem limit step place gs hs a b c f g = record {
+  only = λ k o. elim (g.only k o) [
+    | inl i ↦ elim (f.only k i) [
+      | inl j ↦ inl j
+      | inr j ↦ inr (record { parent = j.parent; grown = one_of-append_left gs hs (record { label = k.label; act = k.act; mark = k.mark }) j.grown; has_eta = j.has_eta; beats = j.beats })
+    ]
+    | inr j ↦ inr (record { parent = j.parent; grown = one_of-append_right gs hs (record { label = k.label; act = k.act; mark = k.mark }) j.grown; has_eta = j.has_eta; beats = j.beats })
+  ];
+  keeps = λ k o. g.keeps k (f.keeps k o);
+  all = λ m o. elim (one_of-append gs hs m o) [
+    | inl i ↦ elim (f.all m i) [ inl off ↦ inl off | inr l ↦ inr (labels_keep b c g.keeps m.label l) ]
+    | inr i ↦ g.all m i
+  ];
+}
+
+-- ---- the successors of a layer
+
+-- the labels gathered from some of a layer's labels
+pub record IsGathering {S : Type 0} (problem : Problem S) (limit : Option ℕ) (step : ℕ) (layer through list : List (Kept S)) : Type 0 where
+  pub grew : (k : Kept S) → IsOneOf list k → GrewFrom problem step layer k
+  pub beats : (k : Kept S) → IsOneOf list k → IsTooLong problem limit (step + 1) k.label → ⊥
+  pub all : (k : Kept S) → IsOneOf through k → (g : Grown S) → IsOneOf (successors_of problem step k.label) g → IsLetOff problem limit (step + 1) g.label ⊎ IsOneOf (labels_of list) g.label
+
+pub gathering_first : {S : Type 0} (problem : Problem S) (limit : Option ℕ) (step : ℕ) (layer : List (Kept S)) → IsGathering problem limit step layer [] []
+gathering_first problem limit step layer = record { grew = λ k o. absurd o; beats = λ k o. absurd o; all = λ k o. absurd o }
+
+grew_from : {S : Type 0} (problem : Problem S) (limit : Option ℕ) (step : ℕ) (layer : List (Kept S)) (i : ℕ) (x k : Kept S) → i < length layer → x ≡ get_or layer i x →
+    IsGathered problem limit (step + 1) i (successors_of problem step x.label) k → GrewFrom problem step layer k
+grew_from problem limit step layer i x k lt e h = record {
+  parent = x;
+  there = ap (slice_get layer) h.parent ∙ slice_get_read layer (length layer) i x refl lt e;
+  grown = h.grown;
+  has_eta = h.has_eta;
+}
+
+pub gathering_more : {S : Type 0} (problem : Problem S) (limit : Option ℕ) (step : ℕ) (layer list new : List (Kept S)) (i : ℕ) (x : Kept S) → i < length layer → x ≡ get_or layer i x →
+    IsGathering problem limit step layer (take i layer) list → Gathers problem limit (step + 1) i (successors_of problem step x.label) list new → IsGathering problem limit step layer (take (i + 1) layer) new
+gathering_more {S} problem limit step layer list new i x lt e h f =
+    let more : take (i + 1) layer ≡ take i layer ++ x ∷ [] = take_more layer i x lt ∙ ap (λ y. take i layer ++ y ∷ []) (sym e) in
+    record {
+      grew = λ k o. elim (f.only k o) [ inl a ↦ h.grew k a | inr b ↦ grew_from problem limit step layer i x k lt e b ];
+      beats = λ k o. elim (f.only k o) [ inl a ↦ h.beats k a | inr b ↦ b.beats ];
+      all = λ k o m q.
+          elim (one_of-append (take i layer) (x ∷ []) k (subst (λ ys. IsOneOf ys k) more o)) [
+            | inl a ↦ elim (h.all k a m q) [ inl off ↦ inl off | inr l ↦ inr (labels_keep list new f.keeps m.label l) ]
+            | inr b ↦ elim b [
+              | inl eq ↦ f.all m (subst (λ y. IsOneOf (successors_of problem step y.label) m) (sym eq) q)
+              | inr z ↦ absurd z
+            ]
+          ];
+    }
+
+pub gathered_sorted : {S : Type 0} (problem : Problem S) (limit : Option ℕ) (step : ℕ) (layer list new : List (Kept S)) (i : ℕ) → length layer ≤ i → IsGathering problem limit step layer (take i layer) list → IsPermutation list new →
+    AreGathered problem limit step layer new
+gathered_sorted problem limit step layer list new i le h same = record {
+  grew = λ k o. h.grew k (one_of_permuted list new same k o);
+  beats = λ k o. h.beats k (one_of_permuted list new same k o);
+  all = λ k o m q. elim (h.all k (subst (λ ys. IsOneOf ys k) (sym (take_all i layer le)) o) m q) [
+    | inl off ↦ inl off
+    | inr l ↦ inr (labels_keep list new (λ j p. one_of_permuted new list (IsPermutation-sym list new same) j p) m.label l)
+  ];
+}
+
+-- ---- labels of a step
+
+pub labels_gathered : {S : Type 0} (problem : Problem S) (limit : Option ℕ) (step place : ℕ) (gs : List (Grown S)) (old new : List (Kept S)) (is_state : S → ℕ → Type 0) (goal : ℕ) →
+    AreLabelsAt is_state goal step old → AreGrownAt is_state goal step gs → Gathers problem limit step place gs old new → AreLabelsAt is_state goal step new
+labels_gathered problem limit step place gs old new is_state goal h grown f k o = elim (f.only k o) [
+  | inl i ↦ h k i
+  | inr j ↦ grown (record { label = k.label; act = k.act; mark = k.mark }) j.grown
+]
+
+pub labels_permuted : {S : Type 0} (is_state : S → ℕ → Type 0) (goal step : ℕ) (old new : List (Kept S)) → IsPermutation old new → AreLabelsAt is_state goal step old → AreLabelsAt is_state goal step new
+labels_permuted is_state goal step old new same h k o = h k (one_of_permuted old new same k o)
+
+depart_small : (step d : ℕ) (o : Option ℕ) → step < STEP_LIMIT → ((c : ℕ) × (o ≡ Some c) × (c < step)) → o ≡ Some d → d < STEP_LIMIT
+depart_small step d o lt h e = let f : Some h.0 ≡ Some d = sym h.1 ∙ e in let g : h.0 ≡ d = cc in let l = h.2 in omega arith
+
+pub labels_small : {S : Type 0} (is_state : S → ℕ → Type 0) (goal step : ℕ) (list : List (Kept S)) → goal < STEP_LIMIT → step < STEP_LIMIT → AreLabelsAt is_state goal step list → AreSmall list
+labels_small is_state goal step list few lt h k o =
+    let l = h k o in
+    let p = l.progress in (
+      omega arith,
+      λ d e. elim (cases_lt 0 k.label.progress) [
+        | inl some ↦ depart_small step d k.label.depart lt (l.departed some) e
+        | inr none ↦ absurd (let f : None ≡ Some d = sym (l.still (omega arith)) ∙ e in cc)
+      ],
+    )
+
+-- ---- the labels of the roots
+
+pub record IsRooting {S : Type 0} (roots through : List (Root S)) (list : List (Kept S)) : Type 0 where
+  pub first : (k : Kept S) → IsOneOf list k → IsFirst roots k
+  pub all : (root : Root S) → IsOneOf through root → IsOneOf (labels_of list) (root_label root.state)
+
+pub rooting_first : {S : Type 0} (roots : List (Root S)) → IsRooting roots [] []
+rooting_first roots = record { first = λ k o. absurd o; all = λ r o. absurd o }
+
+pub rooting_more : {S : Type 0} (roots : List (Root S)) (list : List (Kept S)) (i : ℕ) (x : Root S) (s : S) (k : Kept S) → i < length roots → x ≡ get_or roots i x → s ≡ x.state →
+    k ≡ record { label = root_label s; parent = i; act = Off; mark = None } → IsRooting roots (take i roots) list → IsRooting roots (take (i + 1) roots) (list ++ k ∷ [])
+rooting_more {S} roots list i x s k lt e same is h =
+    let more : take (i + 1) roots ≡ take i roots ++ x ∷ [] = take_more roots i x lt ∙ ap (λ y. take i roots ++ y ∷ []) (sym e) in
+    let label : k.label ≡ root_label x.state = ap (λ j. j.label) is ∙ ap root_label same in
+    record {
+      first = λ m o. elim (one_of-append list (k ∷ []) m o) [
+        | inl a ↦ h.first m a
+        | inr q ↦ elim q [
+          | inl f ↦ subst (λ j. IsFirst roots j) f (record { root = x; there = ap (λ j. slice_get roots j.parent) is ∙ slice_get_read roots (length roots) i x refl lt e; label = label })
+          | inr z ↦ absurd z
+        ]
+      ];
+      all = λ r o. elim (one_of-append (take i roots) (x ∷ []) r (subst (λ ys. IsOneOf ys r) more o)) [
+        | inl a ↦ labels_keep list (list ++ k ∷ []) (λ j p. one_of-append_left list (k ∷ []) j p) (root_label r.state) (h.all r a)
+        | inr q ↦ elim q [
+          | inl f ↦ subst (λ j. IsOneOf (labels_of (list ++ k ∷ [])) (root_label j.state)) f (subst (IsOneOf (labels_of (list ++ k ∷ []))) label (one_of_labels (list ++ k ∷ []) k (one_of-append_right list (k ∷ []) k (inl refl))))
+          | inr z ↦ absurd z
+        ]
+      ];
+    }
+
+pub rooted_whole : {S : Type 0} (roots : List (Root S)) (list : List (Kept S)) (i : ℕ) → length roots ≤ i → IsRooting roots (take i roots) list → AreFirst roots list
+rooted_whole roots list i le h = record { first = h.first; all = λ r o. h.all r (subst (λ ys. IsOneOf ys r) (sym (take_all i roots le)) o) }
+
+later_none : (a b : Option ℕ) → a ≡ None → later a b ≡ true
+later_none None b e = refl
+later_none (Some x) b e = absurd (let z : Some x ≡ None = e in cc)
+
+-- labels of roots are in order
+pub first_ordered : {S : Type 0} (roots : List (Root S)) (list : List (Kept S)) → ((k : Kept S) → IsOneOf list k → IsFirst roots k) → AreOrdered list
+first_ordered roots [] h = tt
+first_ordered roots (k ∷ ks) h = (
+  λ m o. record {
+    departs = later_none k.label.depart m.label.depart (ap (λ l. l.depart) (h k (inl refl)).label);
+    progress = λ e. (let z : m.label.progress ≡ 0 = ap (λ l. l.progress) (h m (inr o)).label in omega arith);
+  },
+  first_ordered roots ks (λ m o. h m (inr o)),
+)
+
+-- and labels of the start
+pub first_label : {S : Type 0} (is_state : S → ℕ → Type 0) (goal : ℕ) (s : S) → is_state s 0 → IsLabelAt is_state goal 0 (root_label s)
+first_label is_state goal s h = record { state = h; progress = omega arith; still = λ e. refl; departed = λ some. absurd (omega arith) }
+
+pub labels_push : {S : Type 0} (is_state : S → ℕ → Type 0) (goal step : ℕ) (list : List (Kept S)) (k : Kept S) → AreLabelsAt is_state goal step list → IsLabelAt is_state goal step k.label → AreLabelsAt is_state goal step (list ++ k ∷ [])
+labels_push is_state goal step list k h here m o = elim (one_of-append list (k ∷ []) m o) [
+  | inl a ↦ h m a
+  | inr q ↦ elim q [ inl f ↦ subst (λ j. IsLabelAt is_state goal step j.label) f here | inr z ↦ absurd z ]
+]

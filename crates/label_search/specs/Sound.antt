@@ -1,0 +1,78 @@
+-- Sound layers, each label of which grew from a root, and worked ones, of which nothing was left out but in the last.
+use Rattle.std.specs.Prelude.{◌≡◌, ℕ, ◌+◌, ◌-◌, ◌<◌, ◌≤◌, true, false, List, [], ◌∷◌, ◌⊎◌, zero, suc, length, Option, None, Some, slice_get}
+use Rattle.rule_core.specs.declared.roots.Root.{Root}
+use Rattle.rule_core.specs.Reach.{IsOneOf}
+use Rattle.tour_model.specs.declared.label.Label.{Label}
+use Rattle.cert_text.specs.declared.grown.Grown.{Grown}
+use Rattle.label_state.specs.declared.kept.Kept.{Kept}
+use Rattle.tour_model.specs.Layer.{layer_at}
+use Rattle.label_state.specs.Layers.{labels_of, label_count}
+use Rattle.cert_text.specs.Problem.{Problem, root_label, successors_of, later, HasEta}
+use Rattle.cert_text.specs.Cover.{IsCovered, NoneIsBetter, taken, IsTooLong}
+
+-- The label of the first layer is that of the root at the place of its parent.
+pub record IsFirst {S : Type 0} (roots : List (Root S)) (k : Kept S) : Type 0 where
+  pub root : Root S
+  pub there : slice_get roots k.parent ≡ Some root
+  pub label : k.label ≡ root_label root.state
+
+-- The label grew from its parent in the layer before, and can still be finished.
+pub record GrewFrom {S : Type 0} (problem : Problem S) (step : ℕ) (layer : List (Kept S)) (k : Kept S) : Type 0 where
+  pub parent : Kept S
+  pub there : slice_get layer k.parent ≡ Some parent
+  pub grown : IsOneOf (successors_of problem step parent.label) (record { label = k.label; act = k.act; mark = k.mark })
+  pub has_eta : HasEta problem (step + 1) k.label
+
+-- The first label departs no earlier, a label that has not departed being the last to depart; and of one departure it has done as much or more.
+pub record StandsBefore {S : Type 0} (a b : Label S) : Type 0 where
+  pub departs : later a.depart b.depart ≡ true
+  pub progress : a.depart ≡ b.depart → b.progress ≤ a.progress
+
+-- Labels that have not departed come first, the others by falling departure, and those of one departure by falling progress.
+abbrev pub AreOrdered : {S : Type 0} → List (Kept S) → Type 0
+AreOrdered [] = Unit {0}
+AreOrdered {S} (k ∷ ks) = ((m : Kept S) → IsOneOf ks m → StandsBefore k.label m.label) × AreOrdered ks
+
+-- Each label of the layers is reached from a root through its parents; none has an earlier better one in its layer; none is bound to take as long as one that was finished in an earlier layer; and each layer after the first is in order.
+pub record IsSound {S : Type 0} (problem : Problem S) (roots : List (Root S)) (layers : List (List (Kept S))) : Type 0 where
+  pub first : (k : Kept S) → IsOneOf (layer_at layers 0) k → IsFirst roots k
+  pub grew : (step : ℕ) (k : Kept S) → IsOneOf (layer_at layers (step + 1)) k → GrewFrom problem step (layer_at layers step) k
+  pub better : (step : ℕ) → NoneIsBetter problem step (labels_of (layer_at layers step))
+  pub beats : (step after : ℕ) (f k : Kept S) → step < after → IsOneOf (layer_at layers step) f → f.label.progress ≡ problem.goal → IsOneOf (layer_at layers after) k →
+      IsTooLong problem (Some (taken step f.label)) after k.label → ⊥
+  pub ordered : (step : ℕ) → AreOrdered (layer_at layers (step + 1))
+
+-- A departed label ends no sooner after its departure than a solution: `solves` tells for which durations there is a solution that takes no more.
+pub record IsOutdone {S : Type 0} (problem : Problem S) (solves : ℕ → Type 0) (step : ℕ) (l : Label S) : Type 0 where
+  pub depart : ℕ
+  pub eta : ℕ
+  pub departed : l.depart ≡ Some depart
+  pub ends : problem.eta step l.progress ≡ Some eta
+  pub solved : solves (eta - depart)
+
+-- A label need not be kept: its windows can no longer be met, or it can do no better than some solution.
+abbrev pub IsIdle : {S : Type 0} → Problem S → (ℕ → Type 0) → ℕ → Label S → Type 0
+IsIdle problem solves step l = (problem.eta step l.progress ≡ None) ⊎ IsOutdone problem solves step l
+
+-- Where there is a second layer, the first one has a label for each state in which the driver may start. And up to the last layer but one, each successor of an unfinished label need not be kept, or has a better label in the next layer.
+pub record IsWorked {S : Type 0} (problem : Problem S) (starts : S → Type 0) (solves : ℕ → Type 0) (layers : List (List (Kept S))) : Type 0 where
+  pub started : 1 < length layers → (s : S) → starts s → IsCovered problem 0 (labels_of (layer_at layers 0)) (root_label s)
+  pub answered : (step : ℕ) → step + 2 < length layers → (k : Kept S) → IsOneOf (layer_at layers step) k → k.label.progress < problem.goal → (g : Grown S) → IsOneOf (successors_of problem step k.label) g →
+      IsIdle problem solves (step + 1) g.label ⊎ IsCovered problem (step + 1) (labels_of (layer_at layers (step + 1))) g.label
+
+-- A label is reachable at the start where it is the first label of a state in which the driver may start, and later where it grows from a reachable one and can still be finished.
+abbrev pub IsReachable : {S : Type 0} → Problem S → (S → Type 0) → ℕ → Label S → Type 0
+IsReachable {S} problem starts zero l = (s : S) × starts s × (root_label s ≡ l)
+IsReachable {S} problem starts (suc step) l = (b : Label S) × IsReachable problem starts step b × (g : Grown S) × IsOneOf (successors_of problem step b) g × (g.label ≡ l) × HasEta problem (suc step) l
+
+-- no two labels of the list are equal
+abbrev pub AreDistinct : {X : Type 0} → List X → Type 0
+AreDistinct [] = Unit {0}
+AreDistinct (x ∷ xs) = (IsOneOf xs x → ⊥) × AreDistinct xs
+
+-- There are at least so many labels that are reachable, over all steps.
+pub record HasLabels {S : Type 0} (problem : Problem S) (starts : S → Type 0) (n : ℕ) : Type 0 where
+  pub layers : List (List (Label S))
+  pub reachable : (step : ℕ) (l : Label S) → IsOneOf (layer_at layers step) l → IsReachable problem starts step l
+  pub distinct : (step : ℕ) → AreDistinct (layer_at layers step)
+  pub count : n ≤ label_count layers

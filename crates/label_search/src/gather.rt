@@ -1,0 +1,134 @@
+//! The labels that are offered to a layer.
+ghost use Rattle.std.specs.Prelude.{◌≡◌, ℕ, ◌+◌, ◌^◌, ◌<◌, ◌≤◌, List, length, IfOk, OnOk};
+ghost use Rattle.rule_core.specs.Replay.{AreRootStates};
+ghost use Rattle.tour_model.specs.declared.limits.TheConstants.{STEP_LIMIT};
+ghost use Rattle.tour_model.specs.Tour.{IsTour};
+ghost use Rattle.tour_model.specs.Word.{word_length};
+ghost use Rattle.label_state.specs.declared.layers.TheConstants.{LAYER_LIMIT};
+ghost use Rattle.cert_text.specs.Problem.{successors_of};
+ghost use Rattle.cert_text.specs.Planning.{problem_of, state_at};
+ghost use Rattle.cert_text.specs.Cover.{IsLabelAt};
+ghost use Rattle.label_search.specs.Sound.{AreOrdered};
+ghost use Rattle.label_search.specs.Searching.{AreLabelsAt, Gathers, AreGathered, AreFirst, is_useful};
+
+use crate::order::put_in_order;
+use duty_core::{Activity, NoMemory};
+use label_extend::{Grown, successors};
+use label_state::{Kept, Label};
+use rule_core::{Root, RuleBook};
+use std::alloc::Global;
+use tour_model::Tour;
+
+/// Whether a label has to be kept: it can still be finished, and unless it has not departed, it
+/// might take less than the limit.
+pub fn is_worth_keeping(limit: Option<u32>, depart: Option<u32>, eta: Option<u32>) -> bool
+    ensures { result ≡ is_useful limit depart eta }
+{
+    let Some(eta) = eta else {
+        return false;
+    };
+    match (limit, depart) {
+        (Some(limit), Some(depart)) => eta.saturating_sub(depart) < limit,
+        _ => true,
+    }
+}
+
+/// Adds the successors of the label at the place `parent` of this step's layer that have to be kept.
+fn gather_from<B: RuleBook>(
+    alloc: Global,
+    book: &B,
+    tour: &Tour,
+    limit: Option<u32>,
+    step: u32,
+    parent: u32,
+    label: &Label<B::State>,
+    list: &mut Vec<Kept<B::State>>,
+) -> Result<(), NoMemory>
+    requires tour { IsTour tour.now }
+    requires params { B.params_of book.now ≡ tour.now.params }
+    requires label { IsLabelAt (state_at tour.now (B.is_state_at book.now)) (word_length tour.now) step label.now }
+    requires step { step + 1 < STEP_LIMIT }
+    ensures ok { OnOk result (Gathers (problem_of tour.now (B.advances_of book.now) (B.covering book.now) (B.idles_of book.now)) limit (step + 1) parent
+        (successors_of (problem_of tour.now (B.advances_of book.now) (B.covering book.now) (B.idles_of book.now)) step label.now) list.old.items list.new.items) }
+{
+    for grown in successors(alloc, book, tour, label, step)?.into_vec() {
+        let Grown { label, act, mark } = grown;
+        let eta = tour.eta(step + 1, label.progress);
+        if is_worth_keeping(limit, label.depart, eta) {
+            list.push(Kept {
+                label,
+                parent,
+                act,
+                mark,
+            })?;
+        }
+    }
+    Ok(())
+}
+
+/// The successors of the labels of this step's layer that have to be kept, in the order in which
+/// they are offered to the next one.
+pub fn gather<B: RuleBook>(
+    alloc: Global,
+    book: &B,
+    tour: &Tour,
+    limit: Option<u32>,
+    step: u32,
+    layer: &[Kept<B::State>],
+) -> Result<Vec<Kept<B::State>>, NoMemory>
+    requires tour { IsTour tour.now }
+    requires params { B.params_of book.now ≡ tour.now.params }
+    requires layer { AreLabelsAt (state_at tour.now (B.is_state_at book.now)) (word_length tour.now) step layer.now }
+    requires size { length layer.now ≤ LAYER_LIMIT }
+    requires step { step + 1 < STEP_LIMIT }
+    ensures gathered { IfOk result (λ list. AreGathered (problem_of tour.now (B.advances_of book.now) (B.covering book.now) (B.idles_of book.now)) limit step layer.now list.items) }
+    ensures labels { IfOk result (λ list. AreLabelsAt (state_at tour.now (B.is_state_at book.now)) (word_length tour.now) (step + 1) list.items) }
+    ensures ordered { IfOk result (λ list. AreOrdered list.items) }
+{
+    let mut list = Vec::new(alloc);
+    for (index, kept) in layer.iter().enumerate() {
+        gather_from(
+            alloc,
+            book,
+            tour,
+            limit,
+            step,
+            index as u32,
+            &kept.label,
+            &mut list,
+        )?;
+    }
+    put_in_order(&mut list)?;
+    Ok(list)
+}
+
+/// The labels of the roots, in their order.
+pub fn root_labels<B: RuleBook>(
+    alloc: Global,
+    book: &B,
+    tour: &Tour,
+    roots: &[Root<B::State>],
+) -> Result<Vec<Kept<B::State>>, NoMemory>
+    requires roots { AreRootStates (B.is_state_at book.now) tour.now.start roots.now }
+    requires few { length roots.now < 2 ^ 32 }
+    ensures first { IfOk result (λ list. AreFirst roots.now list.items) }
+    ensures labels { IfOk result (λ list. AreLabelsAt (state_at tour.now (B.is_state_at book.now)) (word_length tour.now) 0 list.items) }
+    ensures ordered { IfOk result (λ list. AreOrdered list.items) }
+{
+    let _ = tour;
+    let mut list = Vec::new(alloc);
+    for (index, root) in roots.iter().enumerate() {
+        let label = Label {
+            depart: None,
+            progress: 0,
+            state: book.copy(&root.state)?,
+        };
+        list.push(Kept {
+            label,
+            parent: index as u32,
+            act: Activity::Off,
+            mark: None,
+        })?;
+    }
+    Ok(list)
+}

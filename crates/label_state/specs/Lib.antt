@@ -1,0 +1,4 @@
+pub mod Layers
+pub mod Plain
+pub mod Path
+pub mod LayerLaws

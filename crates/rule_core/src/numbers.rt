@@ -1,0 +1,47 @@
+//! The numbers by which a state is written down.
+ghost use Rattle.std.specs.Prelude.{◌≡◌, [], ◌∷◌, ◌++◌, length, OnOk, OnErr};
+
+use duty_core::NoMemory;
+use std::alloc::Global;
+use std::marker::Model;
+
+/// Numbers, in an order. Contracts see their list.
+#[derive(Drop)]
+pub struct Numbers {
+    numbers: Vec<u32>,
+}
+
+impl Model for Numbers {
+    ghost use Rattle.std.specs.Prelude.{List, ℕ};
+
+    ghost Value = { List ℕ };
+
+    ghost view = { λ n. n.numbers.items };
+}
+
+impl Numbers {
+    /// No numbers yet.
+    pub fn new(alloc: Global) -> Numbers
+        ensures { result ≡ [] }
+    {
+        Numbers {
+            numbers: Vec::new(alloc),
+        }
+    }
+
+    /// One more number at the end. Where there is no memory for it, the numbers stay as they were.
+    pub fn push(&mut self, item: u32) -> Result<(), NoMemory>
+        ensures ok { OnOk result (self.new ≡ self.old ++ item ∷ []) }
+        ensures err { OnErr result (self.new ≡ self.old) }
+    {
+        self.numbers.push(item)?;
+        Ok(())
+    }
+
+    /// The numbers, in their order.
+    pub fn items(&self) -> &[u32]
+        ensures { result.now ≡ self.now }
+    {
+        self.numbers.as_slice()
+    }
+}

@@ -1,0 +1,79 @@
+//! Split rests and their pairs in Canada, after SOR/2005-313, section 18.
+ghost use Rattle.std.specs.Prelude.{◌≡◌, ℕ, ◌≤◌, ◌↔◌, Contains, IsTrue};
+ghost use Rattle.duty_core.specs.declared.mark.Mark.TheVariants.{SplitRest};
+ghost use Rattle.duty_core.specs.declared.limits.TheConstants.{MINUTE_LIMIT};
+ghost use Rattle.duty_core.specs.CaShift.{IsSplitWay, IsCaSplit, MeetsCaPair};
+ghost use Rattle.rule_readings.specs.CaSplits.{MeetsSplitMark};
+
+use crate::padded::Padded;
+use crate::pairs::{PairBerth, PairTerms, are_paired, is_berth, split_run};
+use duty_core::{
+    CA_FULL_REST, CA_PAIR_LEAST, CA_SPLIT_LEAST, Mark, Marks, Minute, Params, RestWay,
+};
+
+/// What Canada asks of a pair: ten hours together, and the second rest all in the berth.
+const CA_PAIR: PairTerms = PairTerms {
+    full: CA_FULL_REST,
+    least: CA_PAIR_LEAST,
+    berth: PairBerth::AllOfSecond,
+};
+
+/// Whether the tour rests by the way `split`.
+fn is_split_way(params: Params) -> bool
+    ensures { IsTrue result ↔ IsSplitWay params }
+{
+    match params {
+        Params::Canada {
+            way: RestWay::Split,
+            ..
+        } => true,
+        Params::Canada { .. } | Params::UsProperty { .. } | Params::Hvnl {} => false,
+    }
+}
+
+/// Whether a mark of the minute `at` names a run that may be split and is all in the berth, under
+/// the way `split`.
+fn meets_minute(padded: &Padded, params: Params, first: Minute, at: Minute) -> bool
+    requires early { first ≤ MINUTE_LIMIT }
+    ensures { IsTrue result ↔ IsCaSplit params first padded.now at }
+{
+    match split_run(padded, params, first, CA_SPLIT_LEAST, CA_FULL_REST, at) {
+        Some(rest) => is_split_way(params) && is_berth(padded, rest.from, rest.to),
+        None => false,
+    }
+}
+
+/// Whether the mark, if it splits a rest, may do so.
+fn meets_split_mark(padded: &Padded, params: Params, first: Minute, mark: Mark) -> bool
+    requires early { first ≤ MINUTE_LIMIT }
+    ensures { IsTrue result ↔ MeetsSplitMark params first padded.now mark }
+{
+    match mark {
+        Mark::SplitRest { at } => meets_minute(padded, params, first, at),
+        Mark::DeferDay { .. } => true,
+    }
+}
+
+/// Whether each mark that splits a rest may do so.
+fn meets_split_marks(padded: &Padded, params: Params, first: Minute, marks: &[Mark]) -> bool
+    requires early { first ≤ MINUTE_LIMIT }
+    ensures { IsTrue result
+        ↔ ((at : ℕ) → Contains marks.now (SplitRest at) → IsCaSplit params first padded.now at) }
+{
+    for mark in marks {
+        if !meets_split_mark(padded, params, first, *mark) {
+            return false;
+        }
+    }
+    true
+}
+
+/// Whether each mark of a split rest names a run that may be split, and each split rest and the
+/// next declared rest are a pair, once that has ended.
+pub(crate) fn keeps_pair(padded: &Padded, params: Params, first: Minute, marks: &Marks) -> bool
+    requires early { first ≤ MINUTE_LIMIT }
+    ensures { IsTrue result ↔ MeetsCaPair params first padded.now marks.now }
+{
+    meets_split_marks(padded, params, first, marks.items())
+        && are_paired(padded, params, first, marks, CA_PAIR)
+}

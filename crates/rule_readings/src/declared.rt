@@ -1,0 +1,97 @@
+//! The declared rests of a history: full rests, and shorter ones that a mark names.
+ghost use Rattle.std.specs.Prelude.{◌≡◌, ℕ, ◌+◌, ◌≤◌, ◌↔◌, IsTrue, Contains, Some};
+ghost use Rattle.duty_core.specs.declared.mark.Mark.TheVariants.{SplitRest};
+ghost use Rattle.duty_core.specs.declared.limits.TheConstants.{MINUTE_LIMIT};
+ghost use Rattle.duty_core.specs.Marks.{IsMinuteOf, IsSplitAt};
+ghost use Rattle.rule_readings.specs.declared.padded.TheConstants.{LONGEST_PADDED};
+ghost use Rattle.rule_readings.specs.Found.{DeclaresRun, IsLastFound};
+
+use crate::padded::{Padded, RestRun};
+use duty_core::{Mark, Marks, Minute, Params, unit_of};
+
+/// How long the padding before a history lasts, in minutes.
+const PADDING_MINUTES: u32 = 40_320;
+
+/// The civil minute at which a place of a padded history begins. `None` where it lies before year
+/// 2000.
+pub(crate) fn minute_of(params: Params, first: Minute, place: u32) -> Option<Minute>
+    requires early { first ≤ MINUTE_LIMIT }
+    requires inside { place ≤ LONGEST_PADDED }
+    ensures { (at : ℕ) → IsMinuteOf params first at place ↔ (result ≡ Some at) }
+{
+    (first + unit_of(params) * place).checked_sub(PADDING_MINUTES)
+}
+
+/// Whether a mark names the rest run that begins at this minute.
+fn splits_at(mark: Mark, at: Minute) -> bool
+    ensures { IsTrue result ↔ (mark ≡ SplitRest at) }
+{
+    match mark {
+        Mark::SplitRest { at: other } => other == at,
+        Mark::DeferDay { .. } => false,
+    }
+}
+
+/// Whether one of the marks names the rest run that begins at this minute.
+fn has_split(marks: &[Mark], at: Minute) -> bool
+    ensures { IsTrue result ↔ Contains marks.now (SplitRest at) }
+{
+    for mark in marks {
+        if splits_at(*mark, at) {
+            return true;
+        }
+    }
+    false
+}
+
+/// Whether a mark names the rest run that begins at the place.
+pub(crate) fn is_split_at(params: Params, first: Minute, marks: &Marks, place: u32) -> bool
+    requires early { first ≤ MINUTE_LIMIT }
+    requires inside { place ≤ LONGEST_PADDED }
+    ensures { IsTrue result ↔ IsSplitAt params first marks.now place }
+{
+    match minute_of(params, first, place) {
+        Some(at) => has_split(marks.items(), at),
+        None => false,
+    }
+}
+
+/// Whether a rest run is declared: it is at least `full` units long, or a mark names it.
+pub(crate) fn is_declared(
+    params: Params,
+    first: Minute,
+    marks: &Marks,
+    full: u32,
+    run: RestRun,
+) -> bool
+    requires early { first ≤ MINUTE_LIMIT }
+    requires inside { run.from ≤ LONGEST_PADDED }
+    requires order { run.from ≤ run.to }
+    ensures { IsTrue result ↔ DeclaresRun full (IsSplitAt params first marks.now) run.from run.to }
+{
+    run.to - run.from >= full || is_split_at(params, first, marks, run.from)
+}
+
+/// The last declared rest that has ended at place `i` or before. `None` where there is none.
+pub(crate) fn last_declared(
+    padded: &Padded,
+    params: Params,
+    first: Minute,
+    marks: &Marks,
+    full: u32,
+    i: u32,
+) -> Option<RestRun>
+    requires early { first ≤ MINUTE_LIMIT }
+    ensures { IsLastFound full padded.now (IsSplitAt params first marks.now) i result }
+{
+    let runs = padded.rest_runs();
+    let mut rest = runs.partition_point(|run| run.to <= i);
+    while rest > 0 {
+        rest -= 1;
+        let run = runs[rest];
+        if is_declared(params, first, marks, full, run) {
+            return Some(run);
+        }
+    }
+    None
+}

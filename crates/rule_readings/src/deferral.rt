@@ -1,0 +1,263 @@
+//! Ten hours of rest in each day in Canada, and its deferral, after SOR/2005-313, sections 14 and
+//! 16.
+ghost use Rattle.std.specs.Prelude.{◌≡◌, ℕ, ℤ, ◌+◌, ◌<◌, ◌≤◌, ◌↔◌, Contains, IsTrue, IfSome, MatchOption};
+ghost use Rattle.duty_core.specs.declared.mark.Mark.TheVariants.{DeferDay};
+ghost use Rattle.duty_core.specs.Day.{day_number, IsNumberOfDay};
+ghost use Rattle.duty_core.specs.Marks.{IsDeferred};
+ghost use Rattle.duty_core.specs.Deferral.{IsInDeferral, MeetsCaOff10, HasRestIn, IsDeferral, IsDeferWay, IsCaDeferral, MeetsCaDefer};
+ghost use Rattle.rule_readings.specs.CaHistory.{IsByMinutes};
+ghost use Rattle.rule_readings.specs.Lost.{AreLostCounts};
+ghost use Rattle.rule_readings.specs.Deferring.{IsOpenRest, HasRunIn, DefersDay, MeetsMark};
+
+use crate::ca_day::{DAY_LIMIT, day_begin, day_of};
+use crate::lost::LostMinutes;
+use crate::padded::{Padded, RestRun};
+use duty_core::{
+    CA_BOTH_LOST_LIMIT, CA_DEFERRED_LOST_LIMIT, CA_FULL_REST, CA_LOST_LIMIT, Day, Mark, Marks,
+    Minute, Params, RestWay, is_duty,
+};
+
+/// The number of day 0: the days of the padding and one more.
+const DAY_ZERO: u32 = 29;
+
+/// The number of a day. None where a padded history has no place so early.
+pub(crate) fn number_of(day: Day) -> Option<u32>
+    ensures value { MatchOption result ((n : ℕ) → IsNumberOfDay day n → ⊥) (λ n. IsNumberOfDay day n) }
+    ensures bound { IfSome result (λ n. n < 4000000000) }
+{
+    let days = day.unsigned_abs();
+    if day < 0 {
+        DAY_ZERO.checked_sub(days)
+    } else {
+        Some(DAY_ZERO + days)
+    }
+}
+
+/// Whether the mark defers the day with this number.
+fn defers_day(mark: Mark, number: u32) -> bool
+    ensures { IsTrue result ↔ DefersDay number mark }
+{
+    match mark {
+        Mark::DeferDay { day } => is_number_of(day, number),
+        Mark::SplitRest { .. } => false,
+    }
+}
+
+/// Whether the day has this number.
+fn is_number_of(day: Day, number: u32) -> bool
+    ensures { IsTrue result ↔ IsNumberOfDay day number }
+{
+    match number_of(day) {
+        Some(own) => own == number,
+        None => false,
+    }
+}
+
+/// Whether a mark defers the day with this number.
+pub(crate) fn is_deferred(marks: &Marks, number: u32) -> bool
+    ensures { IsTrue result ↔ IsDeferred marks.now number }
+{
+    for mark in marks.items() {
+        if defers_day(*mark, number) {
+            return true;
+        }
+    }
+    false
+}
+
+/// Whether the day with this number is deferred, or the day after a deferred one.
+pub(crate) fn is_in_deferral(marks: &Marks, number: u32) -> bool
+    ensures { IsTrue result ↔ IsInDeferral (IsDeferred marks.now) number }
+{
+    if is_deferred(marks, number) {
+        return true;
+    }
+    match number.checked_sub(1) {
+        Some(before) => is_deferred(marks, before),
+        None => false,
+    }
+}
+
+/// Whether the day with this number is in a deferral, or loses at most as much as it may.
+fn meets_off10(
+    padded: &Padded,
+    lost: &LostMinutes,
+    params: Params,
+    first: Minute,
+    marks: &Marks,
+    number: u32,
+) -> bool
+    requires counts { AreLostCounts padded.now lost.now }
+    requires minutes { IsByMinutes params first }
+    requires small { number < 1000000 }
+    ensures { IsTrue result ↔ MeetsCaOff10 (day_number params first) padded.now (IsDeferred marks.now) number }
+{
+    lost.in_day(padded, params, first, number) <= CA_LOST_LIMIT || is_in_deferral(marks, number)
+}
+
+/// Whether each day that is in no deferral has its ten hours of rest.
+pub(crate) fn keeps_off10(
+    padded: &Padded,
+    lost: &LostMinutes,
+    params: Params,
+    first: Minute,
+    marks: &Marks,
+) -> bool
+    requires counts { AreLostCounts padded.now lost.now }
+    requires minutes { IsByMinutes params first }
+    ensures { IsTrue result ↔ ((j : ℕ) → MeetsCaOff10 (day_number params first) padded.now (IsDeferred marks.now) j) }
+{
+    let begin = day_of(params, first, 0);
+    let end = day_of(params, first, padded.len()) + 1;
+    for number in begin..end {
+        if !meets_off10(padded, lost, params, first, marks, number) {
+            return false;
+        }
+    }
+    true
+}
+
+/// The place from which on all is rest.
+fn open_rest(padded: &Padded) -> u32
+    ensures { IsOpenRest padded.now result }
+{
+    let mut from = padded.len();
+    while from > 0 {
+        if is_duty(padded.at(from - 1)) {
+            return from;
+        }
+        from -= 1;
+    }
+    from
+}
+
+/// Whether the run has at least `least` minutes, and one from place `begin` up to place `end`.
+fn is_run_in(run: RestRun, least: u32, begin: u32, end: u32) -> bool
+    ensures { IsTrue result ↔ HasRunIn least begin end run }
+{
+    least <= run.to && run.from <= run.to - least && run.from < end && begin < run.to
+}
+
+/// Whether some rest has at least `least` minutes, and one of them in the day with this number.
+fn has_rest_in(padded: &Padded, params: Params, first: Minute, least: u32, number: u32) -> bool
+    requires minutes { IsByMinutes params first }
+    requires some { 0 < least }
+    requires small { number < 1000000 }
+    ensures { IsTrue result ↔ HasRestIn (day_number params first) padded.now least number }
+{
+    let begin = day_begin(params, first, number);
+    let end = day_begin(params, first, number + 1);
+    if begin >= end {
+        return false;
+    }
+    if open_rest(padded) < end {
+        return true;
+    }
+    for run in padded.rest_runs() {
+        if is_run_in(*run, least, begin, end) {
+            return true;
+        }
+    }
+    false
+}
+
+/// Whether rest of the day with this number may be deferred to the next day.
+pub(crate) fn is_deferral(
+    padded: &Padded,
+    lost: &LostMinutes,
+    params: Params,
+    first: Minute,
+    number: u32,
+) -> bool
+    requires counts { AreLostCounts padded.now lost.now }
+    requires minutes { IsByMinutes params first }
+    ensures { IsTrue result ↔ IsDeferral (day_number params first) padded.now number }
+{
+    let _places = padded.len();
+    if number >= DAY_LIMIT {
+        return false;
+    }
+    let own = lost.in_day(padded, params, first, number);
+    let next = lost.in_day(padded, params, first, number + 1);
+    if own <= CA_LOST_LIMIT || own > CA_DEFERRED_LOST_LIMIT || own + next > CA_BOTH_LOST_LIMIT {
+        return false;
+    }
+    let least = CA_FULL_REST + (own - CA_LOST_LIMIT);
+    has_rest_in(padded, params, first, least, number + 1)
+}
+
+/// Whether the tour rests by the way `defer`.
+fn is_defer_way(params: Params) -> bool
+    ensures { IsTrue result ↔ IsDeferWay params }
+{
+    match params {
+        Params::Canada {
+            way: RestWay::Defer,
+            ..
+        } => true,
+        Params::Canada { .. } | Params::UsProperty { .. } | Params::Hvnl {} => false,
+    }
+}
+
+/// Whether a mark of this day stands for a deferral under the way `defer`, and the next day has no
+/// mark.
+fn meets_day(
+    padded: &Padded,
+    lost: &LostMinutes,
+    params: Params,
+    first: Minute,
+    marks: &Marks,
+    day: Day,
+) -> bool
+    requires counts { AreLostCounts padded.now lost.now }
+    requires minutes { IsByMinutes params first }
+    ensures { IsTrue result ↔ IsCaDeferral params (day_number params first) padded.now marks.now day }
+{
+    match number_of(day) {
+        Some(number) => {
+            is_defer_way(params)
+                && is_deferral(padded, lost, params, first, number)
+                && !is_deferred(marks, number + 1)
+        }
+        None => false,
+    }
+}
+
+/// Whether the mark, if it defers a day, may do so.
+fn meets_mark(
+    padded: &Padded,
+    lost: &LostMinutes,
+    params: Params,
+    first: Minute,
+    marks: &Marks,
+    mark: Mark,
+) -> bool
+    requires counts { AreLostCounts padded.now lost.now }
+    requires minutes { IsByMinutes params first }
+    ensures { IsTrue result ↔ MeetsMark params (day_number params first) padded.now marks.now mark }
+{
+    match mark {
+        Mark::DeferDay { day } => meets_day(padded, lost, params, first, marks, day),
+        Mark::SplitRest { .. } => true,
+    }
+}
+
+/// Whether each mark that defers a day may do so.
+pub(crate) fn keeps_defer(
+    padded: &Padded,
+    lost: &LostMinutes,
+    params: Params,
+    first: Minute,
+    marks: &Marks,
+) -> bool
+    requires counts { AreLostCounts padded.now lost.now }
+    requires minutes { IsByMinutes params first }
+    ensures { IsTrue result ↔ MeetsCaDefer params (day_number params first) padded.now marks.now }
+{
+    for mark in marks.items() {
+        if !meets_mark(padded, lost, params, first, marks, *mark) {
+            return false;
+        }
+    }
+    true
+}

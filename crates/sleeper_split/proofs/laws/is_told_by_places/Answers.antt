@@ -1,0 +1,5 @@
+use Rattle.sleeper_split.specs.ChoiceLaws.{declares_once}
+use Rattle.sleeper_split.proofs.laws.is_told_by_places.Goals as goal
+
+pub returns : goal.returns
+returns c rule may ok s i h starts t u some a b = declares_once rule may ok s i h starts t u some a b

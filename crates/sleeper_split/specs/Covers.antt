@@ -1,0 +1,179 @@
+-- Which count may stand for which, whatever comes next.
+use Rattle.std.specs.Prelude.{◌-◌, ◌≡◌, ℕ, ◌+◌, ◌<◌, ◌≤◌, ◌⊎◌, min, Bool, true, false, not, cond, Option, None, Some, nat_eq, nat_le, ◌&&◌, ◌||◌}
+use Rattle.duty_core.specs.declared.activity.Activity.{Activity}
+use Rattle.duty_core.specs.declared.activity.Activity.TheVariants.{Drive, Serve, Wait, Off, Berth}
+use Rattle.duty_core.specs.declared.limits.TheConstants.{US_PAIR_BERTH}
+use Rattle.sleeper_split.specs.declared.rule.BerthRule.{BerthRule}
+use Rattle.sleeper_split.specs.declared.rule.BerthRule.TheVariants.{SevenInOne, AllOfNext}
+use Rattle.sleeper_split.specs.declared.rule.SplitRule.{SplitRule}
+use Rattle.sleeper_split.specs.declared.count.Used.{Used}
+use Rattle.sleeper_split.specs.declared.count.OpenRun.{OpenRun}
+use Rattle.sleeper_split.specs.declared.count.WaitingRest.{WaitingRest}
+use Rattle.sleeper_split.specs.declared.count.SplitCount.{SplitCount}
+use Rattle.sleeper_split.specs.Machine.{IsSplitCount, IsWithin, has_pair_berth, has_split_berth, may_pair, without_run}
+use Rattle.sleeper_split.specs.Exact.{IsSplitRule}
+
+-- # What is asked of a rule and of a count
+
+-- the least time in the berth is no more than a full rest
+abbrev pub IsBerthWithin : BerthRule → ℕ → Type 0
+IsBerthWithin SevenInOne full = US_PAIR_BERTH ≤ full
+IsBerthWithin AllOfNext full = Unit {0}
+
+-- A full rest all in the berth makes a pair with each split rest, and no pair is shorter than a full rest.
+pub record IsPairRule (rule : SplitRule) : Type 0 where
+  pub split : IsSplitRule rule
+  pub least : 0 < rule.least
+  pub shorter : rule.least ≤ rule.full
+  pub pairs : rule.pair ≤ rule.full + rule.least
+  pub owed : rule.full ≤ rule.pair
+  pub berth : IsBerthWithin rule.berth rule.full
+
+-- a split rest that waits is one of the rule, where rests may be split
+abbrev pub WaitsWell : SplitRule → Bool → Option WaitingRest → Type 0
+WaitsWell rule may None = Unit {0}
+WaitsWell rule may (Some w) = (may ≡ true) × (rule.least ≤ w.long) × (w.long < rule.full)
+
+-- a count of the rule
+pub record IsCountOf (rule : SplitRule) (may : Bool) (s : SplitCount) : Type 0 where
+  pub is_count : IsSplitCount s
+  pub waits : WaitsWell rule may s.waiting
+
+-- what a schedule may hold: duty, and the tour's own rest
+abbrev pub allowed : Bool → Activity → Bool
+allowed berth Drive = true
+allowed berth Serve = true
+allowed berth Wait = true
+allowed berth Off = not berth
+allowed berth Berth = berth
+
+-- the tour's own rest
+abbrev pub own_rest : Bool → Activity
+own_rest berth = cond berth Berth Off
+
+-- a test of a count that is passed by each count with no more used since the base
+pub record IsMonotone (ok : SplitCount → Bool) : Type 0 where
+  pub less : (s t : SplitCount) → IsWithin s.base t.base → ok t ≡ true → ok s ≡ true
+
+-- # The relation
+
+-- the length of a split rest, as far as it serves: a longer one makes a pair with each rest that may be its second
+abbrev pub serving : SplitRule → ℕ → ℕ
+serving rule long = min long (rule.pair - rule.least)
+
+-- the time in the berth of the split rest w serves where that of v does
+abbrev pub IsBerthNoWorse : BerthRule → WaitingRest → WaitingRest → Type 0
+IsBerthNoWorse SevenInOne w v = min v.berth US_PAIR_BERTH ≤ w.berth
+IsBerthNoWorse AllOfNext w v = Unit {0}
+
+-- the split rests that wait, and what is used: of the first since its base, and of the second since the rest that waits
+abbrev pub IsWaitNoWorse : SplitRule → Option WaitingRest → Option WaitingRest → Used → Used → Type 0
+IsWaitNoWorse rule None None base last = Unit {0}
+IsWaitNoWorse rule None (Some v) base last = IsWithin base last
+IsWaitNoWorse rule (Some w) None base last = ⊥
+IsWaitNoWorse rule (Some w) (Some v) base last = (serving rule v.long ≤ w.long) × IsBerthNoWorse rule.berth w v
+
+-- the time in the berth of the run r serves where that of q does
+abbrev pub IsDeep : BerthRule → OpenRun → OpenRun → Type 0
+IsDeep SevenInOne r q = (min q.stretch US_PAIR_BERTH ≤ r.stretch) × (min q.longest US_PAIR_BERTH ≤ r.longest)
+IsDeep AllOfNext r q = (r.stretch ≡ r.long) ⊎ ((r.long ≡ q.long) × (r.stretch ≡ q.stretch))
+
+-- the run may end as a full rest once it is one: none waits, or it is all in the berth, or there is time enough in the berth for a pair
+abbrev pub IsReady : BerthRule → Option WaitingRest → OpenRun → Type 0
+IsReady k None r = Unit {0}
+IsReady k (Some w) r = (r.stretch ≡ r.long) ⊎ (has_pair_berth k w r ≡ true)
+
+-- a is no worse than b, number by number
+pub record IsNoWorse (rule : SplitRule) (may : Bool) (a b : SplitCount) : Type 0 where
+  pub run : b.run.long ≤ a.run.long
+  -- the berth serves, or there is nothing that it could serve for
+  pub deep : IsDeep rule.berth a.run b.run ⊎ ((may ≡ false) × (a.waiting ≡ None))
+  -- the runs are equal, or that of a may end as a full rest once it is one
+  pub keeps : (a.run.long ≡ b.run.long) ⊎ IsReady rule.berth a.waiting a.run
+  pub less_base : IsWithin a.base b.base
+  pub less_last : IsWithin a.last b.last
+  pub waiting : IsWaitNoWorse rule a.waiting b.waiting a.base b.last
+
+-- a's run in progress is a full rest that may end as one
+pub record IsFresher (rule : SplitRule) (a : SplitCount) : Type 0 where
+  pub long : rule.full ≤ a.run.long
+  pub pair : may_pair rule a.waiting a.run ≡ true
+
+-- the run as a split rest that waits
+abbrev pub as_waiting : OpenRun → WaitingRest
+as_waiting r = record { long = r.long; berth = r.longest }
+
+-- the run r, as a split rest, is no worse than the one that waits in b and b's run in progress together
+abbrev pub IsOwed : SplitRule → OpenRun → Used → Option WaitingRest → SplitCount → Type 0
+IsOwed rule r used None b = ⊥
+IsOwed rule r used (Some v) b = (serving rule v.long + b.run.long ≤ r.long) × IsBerthNoWorse rule.berth (as_waiting r) v × IsWithin used b.base
+
+-- a's run in progress may still be declared as a split rest, as b's was
+pub record IsOwing (rule : SplitRule) (may : Bool) (a b : SplitCount) : Type 0 where
+  pub allows : may ≡ true
+  pub least : rule.least ≤ a.run.long
+  pub berth : has_split_berth rule.berth a.run ≡ true
+  pub pair : may_pair rule a.waiting a.run ≡ true
+  pub owed : IsOwed rule a.run (without_run a) b.waiting b
+
+-- a may stand for b
+abbrev pub Covers : SplitRule → Bool → SplitCount → SplitCount → Type 0
+Covers rule may a b = IsFresher rule a ⊎ IsNoWorse rule may a b ⊎ IsOwing rule may a b
+
+-- # The same as tests
+
+abbrev pub is_within : Used → Used → Bool
+is_within u v = nat_le u.driving v.driving && (nat_le u.duty v.duty && nat_le u.elapsed v.elapsed)
+
+abbrev pub waits_none : Option WaitingRest → Bool
+waits_none None = true
+waits_none (Some w) = false
+
+abbrev pub is_berth_no_worse : BerthRule → WaitingRest → WaitingRest → Bool
+is_berth_no_worse SevenInOne w v = nat_le (min v.berth US_PAIR_BERTH) w.berth
+is_berth_no_worse AllOfNext w v = true
+
+abbrev pub is_wait_no_worse : SplitRule → Option WaitingRest → Option WaitingRest → Used → Used → Bool
+is_wait_no_worse rule None None base last = true
+is_wait_no_worse rule None (Some v) base last = is_within base last
+is_wait_no_worse rule (Some w) None base last = false
+is_wait_no_worse rule (Some w) (Some v) base last = nat_le (serving rule v.long) w.long && is_berth_no_worse rule.berth w v
+
+abbrev pub is_deep : BerthRule → OpenRun → OpenRun → Bool
+is_deep SevenInOne r q = nat_le (min q.stretch US_PAIR_BERTH) r.stretch && nat_le (min q.longest US_PAIR_BERTH) r.longest
+is_deep AllOfNext r q = nat_eq r.stretch r.long || (nat_eq r.long q.long && nat_eq r.stretch q.stretch)
+
+abbrev pub is_ready : BerthRule → Option WaitingRest → OpenRun → Bool
+is_ready k None r = true
+is_ready k (Some w) r = nat_eq r.stretch r.long || has_pair_berth k w r
+
+abbrev pub is_no_worse : SplitRule → Bool → SplitCount → SplitCount → Bool
+is_no_worse rule may a b =
+    nat_le b.run.long a.run.long
+    && ((is_deep rule.berth a.run b.run || (not may && waits_none a.waiting))
+    && ((nat_eq a.run.long b.run.long || is_ready rule.berth a.waiting a.run)
+    && (is_within a.base b.base && (is_within a.last b.last && is_wait_no_worse rule a.waiting b.waiting a.base b.last))))
+
+abbrev pub is_fresher : SplitRule → SplitCount → Bool
+is_fresher rule a = nat_le rule.full a.run.long && may_pair rule a.waiting a.run
+
+abbrev pub is_owed : SplitRule → OpenRun → Used → Option WaitingRest → SplitCount → Bool
+is_owed rule r used None b = false
+is_owed rule r used (Some v) b = nat_le (serving rule v.long + b.run.long) r.long && (is_berth_no_worse rule.berth (as_waiting r) v && is_within used b.base)
+
+abbrev pub is_owing : SplitRule → Bool → SplitCount → SplitCount → Bool
+is_owing rule may a b = may && (nat_le rule.least a.run.long && (has_split_berth rule.berth a.run && (may_pair rule a.waiting a.run && is_owed rule a.run (without_run a) b.waiting b)))
+
+abbrev pub covers_count : SplitRule → Bool → SplitCount → SplitCount → Bool
+covers_count rule may a b = is_fresher rule a || (is_no_worse rule may a b || is_owing rule may a b)
+
+-- # Rest in place of anything else
+
+-- a run that may hold Off does no harm: it needs no berth to pair or to be split
+abbrev pub is_free : SplitRule → Bool → BerthRule → SplitCount → Bool
+is_free rule may SevenInOne s = true
+is_free rule may AllOfNext s = not may || nat_le rule.full s.run.long
+
+-- resting in place of anything else is safe
+abbrev pub is_ahead : SplitRule → Bool → SplitCount → Bool
+is_ahead rule may s = nat_eq s.run.stretch s.run.long || (waits_none s.waiting && is_free rule may rule.berth s)
