@@ -331,7 +331,7 @@ fn plans_tours(rt: HostRuntime) -> Result<(), Fail> {
             "shortest 5:00 from ",
         ),
         (
-            stop(alloc, 690, 30, monday, "2026-03-03T00:00")?,
+            stop(alloc, 240, 30, monday, "2026-03-02T09:30")?,
             Status::Infeasible,
             "infeasible\n",
         ),

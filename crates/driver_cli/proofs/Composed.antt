@@ -45,7 +45,7 @@ named_refused command tour_name log_name s bytes fault text start reads unfailed
 -- What is answered behind a lawful log answers the words.
 lawful_answers : (call : Call) (command : Command) (tour : Tour) (log : List Activity) (status : Status) (text : Bytes) → IsRead call command tour log → IsLawful tour.params (log_start tour log) log → IsLawfulAnswer command tour log status text → Answers call status text
 lawful_answers call Audit tour log status text r l h = rw h.0 (inr record { tour = tour; log = log; read = r; lawful = l; told = h.1 })
-lawful_answers call (Plan budget) tour log Done text r l h = inl record { budget = budget; tour = tour; log = log; read = r; lawful = l; schedule = h.0; shortest = h.1; told = h.2 }
+lawful_answers call (Plan budget) tour log Done text r l h = inl record { budget = budget; tour = tour; log = log; read = r; lawful = l; schedule = h.0; marks = h.1; solves = h.2; shortest = h.3; told = h.4 }
 lawful_answers call (Plan budget) tour log Infeasible text r l h = record { budget = budget; tour = tour; log = log; read = r; lawful = l; infeasible = h.0; told = h.1 }
 lawful_answers call (Plan budget) tour log Spent text r l h = record { budget = budget; tour = tour; log = log; read = r; lawful = l; spent = h.0; told = h.1 }
 lawful_answers call (Plan budget) tour log Usage text r l h = absurd h

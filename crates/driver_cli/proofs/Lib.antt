@@ -7,3 +7,4 @@ pub mod Composed
 pub mod Exactly
 pub mod Budgets
 pub mod Rebuilt
+pub mod MarkTimes

@@ -1,5 +1,5 @@
 -- The runs of a schedule, read from its front.
-use Rattle.std.proofs.Common.{◌≡◌, ℕ, ◌+◌, ◌*◌, ◌<◌, ◌≤◌, Bool, true, false, zero, suc, Option, None, Some, List, [], ◌∷◌, ◌++◌, replicate, cond, refl, sym, ap, subst, ◌∙◌, append_assoc, add-one, arith}
+use Rattle.std.proofs.Common.{◌≡◌, ℕ, ◌+◌, ◌*◌, ◌<◌, ◌≤◌, Bool, true, false, zero, suc, Option, None, Some, List, [], ◌∷◌, ◌++◌, length, take, get_or, replicate, cond, refl, sym, ap, subst, ◌∙◌, append_assoc, add-one, arith}
 use Rattle.std.proofs.lemmas.Bool.{and_parts}
 use Rattle.std.proofs.lemmas.Bool.Decides.{nat_tests}
 use Rattle.std.proofs.lemmas.List.{append-nil}
@@ -7,6 +7,7 @@ use Rattle.std.proofs.Math.Nat.{mul-le-mul_left, mul-le-mul_right}
 use Rattle.civil_minutes.specs.declared.century.TheConstants.{MINUTES_OF_CENTURY}
 use Rattle.duty_core.specs.declared.activity.Activity.{Activity}
 use Rattle.duty_core.specs.declared.activity.Activity.TheVariants.{Drive, Serve, Wait, Off, Berth}
+use Rattle.duty_core.specs.declared.mark.Mark.{Mark}
 use Rattle.tour_model.specs.declared.limits.TheConstants.{LONGEST_TOUR, LATEST_START}
 use Rattle.tour_model.specs.declared.tour.Tour.{Tour}
 use Rattle.tour_model.specs.Tour.{IsTour}
@@ -14,7 +15,7 @@ use Rattle.tour_model.specs.Way.{done}
 use Rattle.tour_model.specs.LengthLaws.{tour_grid_some}
 use Rattle.driver_cli.specs.declared.report.Doing.{Doing}
 use Rattle.driver_cli.specs.Parts.{Part, Said, Time, Puts}
-use Rattle.driver_cli.specs.Report.{same_act, same_stop, same, Run, runs_with, runs_of, doing_at, doings, minute_of, run_line, run_lines}
+use Rattle.driver_cli.specs.Report.{same_act, same_stop, same, Run, runs_with, runs_of, doing_at, doings, minute_of, run_line, run_lines, mark_line, mark_lines}
 
 -- ---- parts behind parts
 
@@ -161,3 +162,13 @@ minute_within tour n step t short le =
     let m : step * tour.grid ≤ n * tour.grid = mul-le-mul_right tour.grid le in
     let late : tour.start ≤ LATEST_START = t.not_late in
     omega (arith, m, short, late)
+
+-- ---- marks
+
+pub mark_lines_more : (marks : List Mark) (i : ℕ) (d : Mark) → i < length marks → mark_lines (take (i + 1) marks) ≡ mark_lines (take i marks) ++ mark_line (get_or marks i d)
+mark_lines_more [] i d l = absurd (omega arith)
+mark_lines_more (m ∷ marks) zero d l = append-nil (mark_line m)
+mark_lines_more (m ∷ marks) (suc i) d l =
+    let e : suc i + 1 ≡ suc (i + 1) = omega arith in
+    ap (λ n. mark_lines (take n (m ∷ marks))) e
+    ∙ ap (λ ps. mark_line m ++ ps) (mark_lines_more marks i d (omega arith)) ∙ sym (append_assoc (mark_line m) (mark_lines (take i marks)) (mark_line (get_or marks i d)))

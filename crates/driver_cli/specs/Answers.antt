@@ -2,10 +2,11 @@
 use Rattle.std.specs.Prelude.{◌≡◌, ◌⊎◌, ℕ, List, Option, Some, true, false, Ok, Err}
 use Rattle.std.specs.Io.KnownBytes.{Keeps, Appends}
 use Rattle.duty_core.specs.declared.activity.Activity.{Activity}
+use Rattle.duty_core.specs.declared.mark.Mark.{Mark}
 use Rattle.duty_core.specs.Lawful.{IsLawful}
 use Rattle.rule_core.specs.Replay.{IsFirstUnlawful}
 use Rattle.tour_model.specs.declared.tour.Tour.{Tour}
-use Rattle.tour_model.specs.Schedule.{IsShortest, IsInfeasible, log_start}
+use Rattle.tour_model.specs.Schedule.{IsSolutionWith, IsShortest, IsInfeasible, log_start}
 use Rattle.tour_reader.specs.declared.fault.TourFault.{TourFault}
 use Rattle.duty_log.specs.declared.fault.LogFault.{LogFault}
 use Rattle.outside.specs.Outside.{Bytes, Files, Rose, AppendsStart}
@@ -121,7 +122,7 @@ pub record AuditDone (call : Call) (text : Bytes) : Type 0 where
   pub lawful : IsLawful tour.params (log_start tour log) log
   pub told : text ≡ lawful_text
 
--- Done, of `plan`: the log is lawful, behind it the tour has this shortest schedule, and the text reports it.
+-- Done, of `plan`: the log is lawful, behind it the tour has this shortest schedule, which is lawful with these marks, and the text reports both.
 pub record PlanDone (call : Call) (text : Bytes) : Type 0 where
   pub budget : ℕ
   pub tour : Tour
@@ -129,8 +130,10 @@ pub record PlanDone (call : Call) (text : Bytes) : Type 0 where
   pub read : IsRead call (Plan budget) tour log
   pub lawful : IsLawful tour.params (log_start tour log) log
   pub schedule : List Activity
+  pub marks : List Mark
+  pub solves : IsSolutionWith tour log schedule marks
   pub shortest : IsShortest tour log schedule
-  pub told : IsText (report tour schedule) text
+  pub told : IsText (report tour schedule marks) text
 
 -- Infeasible, of `plan`: the log is lawful, and behind it no schedule serves the tour lawfully.
 pub record PlanInfeasible (call : Call) (text : Bytes) : Type 0 where

@@ -1,11 +1,12 @@
 -- The statuses and texts that answer a command, a tour and a log.
 use Rattle.std.specs.Prelude.{◌≡◌, ◌≢◌, ◌⊎◌, ℕ, ◌+◌, ◌*◌, List, true, false, Option, Some, Ok, Err}
 use Rattle.duty_core.specs.declared.activity.Activity.{Activity}
+use Rattle.duty_core.specs.declared.mark.Mark.{Mark}
 use Rattle.duty_core.specs.Lawful.{IsLawful}
 use Rattle.duty_core.specs.Params.{unit_minutes}
 use Rattle.rule_core.specs.Replay.{IsFirstUnlawful}
 use Rattle.tour_model.specs.declared.tour.Tour.{Tour}
-use Rattle.tour_model.specs.Schedule.{IsShortest, IsInfeasible, log_start}
+use Rattle.tour_model.specs.Schedule.{IsSolutionWith, IsShortest, IsInfeasible, log_start}
 use Rattle.tour_reader.specs.declared.fault.TourFault.{TourFault}
 use Rattle.duty_log.specs.declared.fault.LogFault.{LogFault}
 use Rattle.duty_log.specs.Log.{ReadsLog}
@@ -27,7 +28,8 @@ log_minute tour log unit = log_start tour log + unit_minutes tour.params * unit
 
 -- what planning a tour behind a lawful log with a budget of labels is answered
 abbrev pub IsPlanAnswer : Tour → List Activity → ℕ → Status → Bytes → Type 0
-IsPlanAnswer tour log budget Done text = (schedule : List Activity) × IsShortest tour log schedule × IsText (report tour schedule) text
+IsPlanAnswer tour log budget Done text =
+    (schedule : List Activity) × (marks : List Mark) × IsSolutionWith tour log schedule marks × IsShortest tour log schedule × IsText (report tour schedule marks) text
 IsPlanAnswer tour log budget Infeasible text = IsInfeasible tour log × (text ≡ infeasible_text)
 IsPlanAnswer tour log budget Spent text = IsSpent tour log budget × (text ≡ spent_text budget)
 IsPlanAnswer tour log budget _ text = ⊥

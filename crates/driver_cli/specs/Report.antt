@@ -1,8 +1,11 @@
--- The report of a schedule: its duration and times, and a line for each of its runs.
-use Rattle.std.specs.Prelude.{ℕ, ◌+◌, ◌*◌, ◌/◌, ◌%◌, Bool, true, false, List, [], ◌∷◌, ◌++◌, length, codes, Option, None, Some, slice_get, unwrap_or, ◌==◌, ◌&&◌, if◌then◌else◌}
+-- The report of a schedule: its duration and times, a line for each of its runs, and one for each of its marks.
+use Rattle.std.specs.Prelude.{ℕ, ◌+◌, ◌<◌, ◌*◌, ◌/◌, ◌%◌, Bool, true, false, List, [], ◌∷◌, ◌++◌, length, codes, Option, None, Some, slice_get, unwrap_or, ◌==◌, ◌&&◌, if◌then◌else◌}
 use Rattle.std.specs.Fmt.{decimal}
+use Rattle.civil_minutes.specs.declared.century.TheConstants.{MINUTES_OF_CENTURY}
 use Rattle.duty_core.specs.declared.activity.Activity.{Activity}
 use Rattle.duty_core.specs.declared.activity.Activity.TheVariants.{Drive, Serve, Wait, Off, Berth}
+use Rattle.duty_core.specs.declared.mark.Mark.{Mark}
+use Rattle.duty_core.specs.declared.mark.Mark.TheVariants.{SplitRest, DeferDay}
 use Rattle.tour_model.specs.declared.piece.Piece.{Piece}
 use Rattle.tour_model.specs.declared.piece.Piece.TheVariants as piece
 use Rattle.tour_model.specs.declared.stop.Stop.{Stop}
@@ -123,6 +126,21 @@ head_line tour schedule =
     Said (codes "shortest ") ∷ Said (clock_text (duration schedule * tour.grid)) ∷ Said (codes " from ") ∷ Time (minute_of tour (departure schedule))
     ∷ Said (codes " to ") ∷ Time (minute_of tour (length schedule)) ∷ Said (codes "\n") ∷ []
 
+-- `mark split TIME` of a rest that is split, by the first minute of its run
+abbrev pub mark_line : Mark → List Part
+mark_line (SplitRest at) = Said (codes "mark split ") ∷ Time at ∷ Said (codes "\n") ∷ []
+mark_line (DeferDay day) = []
+
+-- a line for each mark
+abbrev pub mark_lines : List Mark → List Part
+mark_lines [] = []
+mark_lines (mark ∷ marks) = mark_line mark ++ mark_lines marks
+
+-- A mark's time can be written.
+abbrev pub HasMarkTime : Mark → Type 0
+HasMarkTime (SplitRest at) = at < MINUTES_OF_CENTURY
+HasMarkTime (DeferDay day) = Unit {0}
+
 -- the report
-abbrev pub report : Tour → List Activity → List Part
-report tour schedule = head_line tour schedule ++ run_lines tour 0 (runs_of (doings tour 0 schedule))
+abbrev pub report : Tour → List Activity → List Mark → List Part
+report tour schedule marks = (head_line tour schedule ++ run_lines tour 0 (runs_of (doings tour 0 schedule))) ++ mark_lines marks

@@ -72,7 +72,7 @@ fn planned(
             serves_by_steps(tour);
             Ok(Answer {
                 status: Status::Done,
-                text: report_text(alloc, tour, schedule.steps.items())?,
+                text: report_text(alloc, tour, schedule.steps.items(), schedule.marks.items())?,
             })
         }
         Planned::Infeasible => line(alloc, Status::Infeasible, "infeasible\n"),

@@ -1,5 +1,5 @@
 //! The report of a schedule.
-ghost use Rattle.std.specs.Prelude.{◌≡◌, ◌<◌, ◌≤◌, ◌*◌, ◌/◌, ◌++◌, ◌↔◌, ℕ, [], length, IsTrue, unwrap_or, position, slice_get, IfOk, OnOk};
+ghost use Rattle.std.specs.Prelude.{◌≡◌, ◌<◌, ◌≤◌, ◌*◌, ◌/◌, ◌++◌, ◌↔◌, ℕ, [], length, IsTrue, unwrap_or, position, slice_get, All, IfOk, OnOk};
 ghost use Rattle.civil_minutes.specs.declared.century.TheConstants.{MINUTES_OF_CENTURY};
 ghost use Rattle.tour_model.specs.declared.limits.TheConstants.{LONGEST_TOUR};
 ghost use Rattle.tour_model.specs.Schedule.{depart_from, duration};
@@ -7,10 +7,10 @@ ghost use Rattle.tour_model.specs.Tour.{IsTour};
 ghost use Rattle.tour_model.specs.Way.{progresses, done};
 ghost use Rattle.tour_model.specs.Word.{next_piece};
 ghost use Rattle.driver_cli.specs.Parts.{Puts, IsText};
-ghost use Rattle.driver_cli.specs.Report.{stop_of, doing_at, doings, runs_of, act_word, doing_text, name_of, stop_at, minute_of, run_line, run_lines, clock_text, departure, head_line, report};
+ghost use Rattle.driver_cli.specs.Report.{stop_of, doing_at, doings, runs_of, act_word, doing_text, name_of, stop_at, minute_of, run_line, run_lines, clock_text, departure, head_line, HasMarkTime, mark_line, mark_lines, report};
 
 use crate::text::Text;
-use duty_core::{Activity, Minute, NoMemory};
+use duty_core::{Activity, Mark, Minute, NoMemory};
 use std::alloc::Global;
 use tour_model::{Piece, Tour};
 
@@ -21,16 +21,56 @@ pub struct Doing {
     pub stop: Option<u32>,
 }
 
-/// The report of a schedule: its duration, departure and end, and a line for each of its runs, with
-/// their times.
-pub fn report_text(alloc: Global, tour: &Tour, schedule: &[Activity]) -> Result<Text, NoMemory>
+/// The report of a schedule: its duration, departure and end, a line for each of its runs, with
+/// their times, and a line for each of its marks.
+pub fn report_text(
+    alloc: Global,
+    tour: &Tour,
+    schedule: &[Activity],
+    marks: &[Mark],
+) -> Result<Text, NoMemory>
     requires tour { IsTour tour.now }
     requires short { length schedule.now * tour.now.grid ≤ LONGEST_TOUR }
-    ensures { IfOk result (IsText (report tour.now schedule.now)) }
+    requires marks { All HasMarkTime marks.now }
+    ensures { IfOk result (IsText (report tour.now schedule.now marks.now)) }
 {
     let mut text = head_text(alloc, tour, schedule)?;
     push_runs(&mut text, tour, schedule)?;
+    push_marks(&mut text, marks)?;
     Ok(text)
+}
+
+/// Puts a line for each mark behind the text.
+fn push_marks(text: &mut Text, marks: &[Mark]) -> Result<(), NoMemory>
+    requires { All HasMarkTime marks.now }
+    ensures { OnOk result (Puts (mark_lines marks.now) text.old text.new) }
+{
+    for mark in marks {
+        push_mark(text, *mark)?;
+    }
+    Ok(())
+}
+
+/// Puts the line of a mark behind the text.
+fn push_mark(text: &mut Text, mark: Mark) -> Result<(), NoMemory>
+    requires { HasMarkTime mark }
+    ensures { OnOk result (Puts (mark_line mark) text.old text.new) }
+{
+    match mark {
+        Mark::SplitRest { at } => push_split(text, at),
+        // A lawful schedule of the United States defers no day.
+        Mark::DeferDay { day: _ } => Ok(()),
+    }
+}
+
+/// Puts the line of a split rest that begins at this minute behind the text.
+fn push_split(text: &mut Text, at: Minute) -> Result<(), NoMemory>
+    requires { at < MINUTES_OF_CENTURY }
+    ensures { OnOk result (Puts (mark_line (Mark.SplitRest at)) text.old text.new) }
+{
+    text.push_str("mark split ")?;
+    text.push_time(at)?;
+    text.push_str("\n")
 }
 
 /// The first line of a report.

@@ -2,7 +2,7 @@
 
 use crate::report::report_text;
 use crate::texts::log_refused_text;
-use duty_core::Activity;
+use duty_core::{Activity, Mark};
 use duty_log::LogFault;
 use std::test::Fail;
 use tour_reader::read_tour;
@@ -32,8 +32,17 @@ fn reports_two_stops(rt: HostRuntime) -> Result<(), Fail> {
         Activity::Serve,
         Activity::Serve,
     ];
-    let text = report_text(rt.alloc(), &tour, schedule.as_slice())?;
+    let text = report_text(rt.alloc(), &tour, schedule.as_slice(), &[])?;
     assert_eq!(rt; text.as_bytes(), REPORT.as_bytes());
+    // The rest began at 13,762,440, which is 2026-03-02T06:00.
+    let marks = [Mark::SplitRest { at: 13_762_440 }];
+    let marked = report_text(rt.alloc(), &tour, schedule.as_slice(), &marks)?;
+    assert!(rt; marked.as_bytes().starts_with(REPORT.as_bytes()));
+    assert!(rt;
+        marked
+            .as_bytes()
+            .ends_with("\nmark split 2026-03-02T06:00\n".as_bytes())
+    );
     Ok(())
 }
 
