@@ -76,7 +76,7 @@ fn answer(alloc: Global, given: Given) -> Result<(Status, Vec<u8>), NoMemory> {
 
 #[test]
 fn answers_words_and_faults(rt: HostRuntime) -> Result<(), Fail> {
-    let usage = "usage: driver plan TOUR LOG\n       driver audit TOUR LOG\n";
+    let usage = "usage: driver plan TOUR LOG [--budget N]\n       driver audit TOUR LOG\n";
     let given = Given::new(&PLAN, "{}", "");
     let cases = [
         (given, Status::Refused, "tour refused: Missing book\n"),
@@ -341,6 +341,11 @@ fn plans_tours(rt: HostRuntime) -> Result<(), Fail> {
             "shortest 1:30 from ",
         ),
         (
+            stop(alloc, 690, 30, monday, "2026-03-03T03:30")?,
+            Status::Done,
+            "shortest 22:00 from ",
+        ),
+        (
             stop(alloc, 0, 30, "2026-03-02T06:10", "2026-03-02T06:20")?,
             Status::Infeasible,
             "infeasible\n",
@@ -424,6 +429,30 @@ fn audits_days_of_work_and_rest(rt: HostRuntime) -> Result<(), Fail> {
         let lawful = sent.as_slice() == "lawful\n".as_bytes();
         assert_eq!(rt; ended == Status::Done, lawful, "where {text} is sent");
         assert_eq!(rt; sent.as_slice(), text.as_bytes());
+    }
+    Ok(())
+}
+
+#[test]
+fn spends_a_small_budget(rt: HostRuntime) -> Result<(), Fail> {
+    let alloc = rt.alloc();
+    let stop = stop(alloc, 690, 30, "2026-03-02T06:00", "2026-03-03T03:30")?;
+    let tour = tour_of(alloc, stop.as_str())?;
+    let usage = "usage: driver plan TOUR LOG [--budget N]\n       driver audit TOUR LOG\n";
+    let cases = [
+        ("3", Status::Spent, "spent 3\n"),
+        ("500000", Status::Done, "shortest 22:00 from "),
+        ("0", Status::Usage, usage),
+        ("500001", Status::Usage, usage),
+        ("03", Status::Usage, usage),
+        ("+3", Status::Usage, usage),
+        ("", Status::Usage, usage),
+    ];
+    for (budget, status, text) in cases {
+        let words = ["plan", "tour.json", "log.csv", "--budget", budget];
+        let (ended, sent) = answer(alloc, Given::new(&words, tour.as_str(), RESTED))?;
+        assert_eq!(rt; ended, status, "where {text} is sent");
+        assert!(rt; sent.as_slice().starts_with(text.as_bytes()));
     }
     Ok(())
 }
