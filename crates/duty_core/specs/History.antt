@@ -3,12 +3,12 @@ use Rattle.std.specs.Prelude.{ℕ, ◌+◌, ◌*◌, ◌<◌, ◌≤◌, List, �
 use Rattle.duty_core.specs.declared.activity.Activity.{Activity}
 use Rattle.duty_core.specs.declared.activity.Activity.TheVariants.{Off}
 use Rattle.duty_core.specs.declared.params.Params.{Params}
-use Rattle.duty_core.specs.declared.limits.TheConstants.{LONGEST_HISTORY, MINUTE_LIMIT}
+use Rattle.duty_core.specs.declared.limits.TheConstants.{LONGEST_HISTORY, MINUTE_LIMIT, PADDING_DAYS}
 use Rattle.duty_core.specs.Params.{unit_minutes, day_units, BeginsUnit}
 
 -- how many days of rest stand before and behind a history
 unfoldable pub pad_days : ℕ
-pad_days = 28
+pad_days = PADDING_DAYS
 
 abbrev pub pad_units : Params → ℕ
 pad_units params = pad_days * day_units params

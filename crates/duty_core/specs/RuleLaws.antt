@@ -1,16 +1,11 @@
 -- What the rules that are asked at a place look at: nothing behind that place, and rest is asked nothing.
-use Rattle.std.proofs.Common.{◌≡◌, [], ◌↔◌, ℕ, ◌+◌, ◌<◌, ◌≤◌, true, false, List, drop, sym, refl, ◌∙◌, ap, subst, arith, inl, inr}
+use Rattle.std.proofs.Common.{◌≡◌, ℕ, ◌+◌, ◌<◌, ◌≤◌, true, false, List, drop, sym, ◌∙◌, ap, subst, arith, inl, inr}
 use Rattle.std.specs.Prelude.{Bool, count_by}
 use Rattle.duty_core.specs.declared.activity.Activity.{Activity}
 use Rattle.duty_core.specs.declared.activity.Activity.TheVariants.{Drive}
-use Rattle.duty_core.specs.declared.limits.TheConstants.{US_FULL_REST, US_DRIVING_LIMIT}
+use Rattle.duty_core.specs.declared.limits.TheConstants.{US_DRIVING_LIMIT}
 use Rattle.duty_core.specs.Activity.{rests, drives, works}
-use Rattle.duty_core.specs.History.{unit_at, between, padded}
-use Rattle.duty_core.specs.declared.params.Params.{Params}
-use Rattle.duty_core.specs.declared.rule.Rule.TheVariants.{UsDrive11}
-use Rattle.duty_core.specs.Marks.{IsSplitAt}
-use Rattle.duty_core.specs.RuleBooks.{Keeps}
-use Rattle.duty_core.specs.RestRun.{IsLongRun}
+use Rattle.duty_core.specs.History.{unit_at, between}
 use Rattle.duty_core.specs.HistoryLaws.{AreAlike, alike_back, IsRule}
 use Rattle.duty_core.specs.RunLaws.{run_alike, long_alike}
 use Rattle.duty_core.specs.Counting.{IsLastEnd, CountsInDays, IsDaysBase}

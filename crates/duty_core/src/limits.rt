@@ -9,8 +9,11 @@ pub const LONGEST_LOG: u32 = 30_240;
 /// The civil minute that no call of a rule book reaches.
 pub const MINUTE_LIMIT: u32 = 100_000_000;
 
-/// The rest that stands before and behind each history, in minutes: twenty-eight days.
-pub const PADDING_MINUTES: u32 = 40_320;
+/// The days of rest that stand before and behind each history.
+pub const PADDING_DAYS: u32 = 28;
+
+/// The rest that stands before and behind each history, in minutes.
+pub const PADDING_MINUTES: u32 = PADDING_DAYS * DAY_MINUTES;
 
 /// The greatest number that a count of minutes reaches, where it stays.
 pub const COUNT_LIMIT: u32 = 999_999;
@@ -38,6 +41,9 @@ pub const US_UNBROKEN_LIMIT: u32 = 480;
 
 /// The number of days that the shorter week of the United States has (49 CFR 395.3(b)(1)).
 pub const US_SHORT_WEEK: u32 = 7;
+
+/// The number of days that the longer week of the United States has (49 CFR 395.3(b)(2)).
+pub const US_LONG_WEEK: u32 = 8;
 
 /// The greatest duty in the shorter week of the United States, in minutes: sixty hours in seven
 /// days (49 CFR 395.3(b)(1)).

@@ -14,6 +14,5 @@ pub mod CaSplits
 pub mod AuCounts
 pub mod AuNightCounts
 pub mod AuKeeps
-pub mod Good
 pub mod Broken
 pub mod BrokenLaws

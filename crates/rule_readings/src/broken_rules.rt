@@ -2,10 +2,9 @@
 ghost use Rattle.std.specs.Prelude.{◌≡◌, ◌+◌, ◌*◌, ◌≤◌, ◌↔◌, Contains, IsTrue, IfOk, length};
 ghost use Rattle.civil_minutes.specs.declared.century.TheConstants.{MINUTES_OF_CENTURY};
 ghost use Rattle.duty_core.specs.declared.limits.TheConstants.{DAY_MINUTES};
-ghost use Rattle.duty_core.specs.Params.{unit_minutes, BeginsUnit};
+ghost use Rattle.duty_core.specs.Params.{unit_minutes, BeginsUnit, AreGoodParams};
 ghost use Rattle.duty_core.specs.RuleBooks.{rules_of, Keeps, KeepsPadded};
 ghost use Rattle.rule_readings.specs.CaHistory.{IsPadded};
-ghost use Rattle.rule_readings.specs.Good.{AreGoodParams};
 ghost use Rattle.rule_readings.specs.Broken.{AreBroken};
 
 use crate::au::keeps_au;

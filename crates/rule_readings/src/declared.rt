@@ -7,10 +7,7 @@ ghost use Rattle.rule_readings.specs.declared.padded.TheConstants.{LONGEST_PADDE
 ghost use Rattle.rule_readings.specs.Found.{DeclaresRun, IsLastFound};
 
 use crate::padded::{Padded, RestRun};
-use duty_core::{Mark, Marks, Minute, Params, unit_of};
-
-/// How long the padding before a history lasts, in minutes.
-const PADDING_MINUTES: u32 = 40_320;
+use duty_core::{Mark, Marks, Minute, PADDING_MINUTES, Params, unit_of};
 
 /// The civil minute at which a place of a padded history begins. `None` where it lies before year
 /// 2000.

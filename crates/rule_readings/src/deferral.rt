@@ -16,11 +16,11 @@ use crate::lost::LostMinutes;
 use crate::padded::{Padded, RestRun};
 use duty_core::{
     CA_BOTH_LOST_LIMIT, CA_DEFERRED_LOST_LIMIT, CA_FULL_REST, CA_LOST_LIMIT, Day, Mark, Marks,
-    Minute, Params, RestWay, is_duty,
+    Minute, PADDING_DAYS, Params, RestWay, is_duty,
 };
 
 /// The number of day 0: the days of the padding and one more.
-const DAY_ZERO: u32 = 29;
+const DAY_ZERO: u32 = PADDING_DAYS + 1;
 
 /// The number of a day. None where a padded history has no place so early.
 pub(crate) fn number_of(day: Day) -> Option<u32>

@@ -6,16 +6,16 @@ ghost use Rattle.duty_core.specs.Counting.{driving, duty};
 ghost use Rattle.timeline.specs.Kinds.{test_of};
 ghost use Rattle.rule_readings.specs.Padded.{AreCounts, AreRestRuns};
 
-use duty_core::{Activity, DAY_MINUTES, LONGEST_HISTORY, NoMemory, Params, is_rest, unit_of};
+use duty_core::{
+    Activity, DAY_MINUTES, LONGEST_HISTORY, NoMemory, PADDING_DAYS, PADDING_MINUTES, Params,
+    is_rest, unit_of,
+};
 use std::alloc::Global;
 use std::marker::Model;
 use timeline::{CountOf, Timeline};
 
-/// How many days of rest stand before and behind a history.
-const PADDING_DAYS: u32 = 28;
-
 /// The greatest length of a padded history, in units.
-pub(crate) const LONGEST_PADDED: u32 = 131_040;
+pub(crate) const LONGEST_PADDED: u32 = LONGEST_HISTORY + 2 * PADDING_MINUTES;
 
 /// A rest run that has ended: the units from place `from` up to place `to`, without `to`.
 #[derive(Clone, Copy, Debug, PartialEq, Eq)]

@@ -1,18 +1,16 @@
 -- The numbers that a tour may have.
-use Rattle.std.specs.Prelude.{ℕ, ◌+◌, ◌*◌, ◌<◌, ◌≤◌, List, length, All, Contains}
+use Rattle.std.specs.Prelude.{ℕ, ◌+◌, ◌*◌, ◌≤◌, List, length, All, Contains}
 use Rattle.duty_core.specs.declared.params.Params.{Params}
 use Rattle.duty_core.specs.declared.params.Params.TheVariants.{UsProperty, Canada, Hvnl}
-use Rattle.duty_core.specs.Params.{BeginsUnit}
-use Rattle.tour_model.specs.declared.limits.TheConstants.{DAY_MINUTES, FEWEST_DAYS, MOST_DAYS, MOST_CYCLE, GRIDS, HVNL_GRIDS, EARLIEST_START, LATEST_START, FEWEST_STOPS, MOST_STOPS, LONGEST_NAME, MOST_DRIVE, MOST_SERVICE, MOST_WINDOWS, LONGEST_TOUR}
+use Rattle.duty_core.specs.Params.{BeginsUnit, AreGoodParams}
+use Rattle.tour_model.specs.declared.limits.TheConstants.{GRIDS, HVNL_GRIDS, EARLIEST_START, LATEST_START, FEWEST_STOPS, MOST_STOPS, LONGEST_NAME, MOST_DRIVE, MOST_SERVICE, MOST_WINDOWS, LONGEST_TOUR}
 use Rattle.tour_model.specs.declared.window.Window.{Window}
 use Rattle.tour_model.specs.declared.stop.Stop.{Stop}
 use Rattle.tour_model.specs.declared.tour.Tour.{Tour}
 
 -- the numbers that a book's parameters may have
 abbrev pub IsParams : Params → Type 0
-IsParams (UsProperty berth days day_start) = (FEWEST_DAYS ≤ days) × (days ≤ MOST_DAYS) × (day_start < DAY_MINUTES)
-IsParams (Canada berth way cycle day_start) = (1 ≤ cycle) × (cycle ≤ MOST_CYCLE) × (day_start < DAY_MINUTES)
-IsParams Hvnl = Unit {0}
+IsParams params = AreGoodParams params
 
 -- the lengths of a step that a tour of the book may have, in minutes
 abbrev pub grids_of : Params → List ℕ

@@ -1,17 +1,14 @@
 //! The limits of a tour. Each stands here once, for code and definitions alike.
-use duty_core::Minute;
-
-/// The number of minutes of a day.
-pub const DAY_MINUTES: u32 = 1_440;
+use duty_core::{CA_CYCLE_2, Minute, US_LONG_WEEK, US_SHORT_WEEK};
 
 /// The fewest days of a United States weekly limit.
-pub const FEWEST_DAYS: u32 = 7;
+pub const FEWEST_DAYS: u32 = US_SHORT_WEEK;
 
 /// The most days of a United States weekly limit.
-pub const MOST_DAYS: u32 = 8;
+pub const MOST_DAYS: u32 = US_LONG_WEEK;
 
 /// The greatest number of a Canadian cycle. The first is 1.
-pub const MOST_CYCLE: u32 = 2;
+pub const MOST_CYCLE: u32 = CA_CYCLE_2;
 
 /// The lengths of a step that a tour of the United States or Canada may have, in minutes.
 pub const GRIDS: [u32; 4] = [1, 5, 15, 30];

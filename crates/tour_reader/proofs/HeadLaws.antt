@@ -7,7 +7,8 @@ use Rattle.serde_json.specs.Data.{Data}
 use Rattle.duty_core.specs.declared.params.Params.{Params}
 use Rattle.duty_core.specs.declared.params.Params.TheVariants as params
 use Rattle.duty_core.specs.Params.{unit_minutes, BeginsUnit}
-use Rattle.tour_model.specs.declared.limits.TheConstants.{DAY_MINUTES, FEWEST_DAYS, MOST_DAYS, MOST_CYCLE, EARLIEST_START, LATEST_START}
+use Rattle.duty_core.specs.declared.limits.TheConstants.{DAY_MINUTES}
+use Rattle.tour_model.specs.declared.limits.TheConstants.{FEWEST_DAYS, MOST_DAYS, MOST_CYCLE, EARLIEST_START, LATEST_START}
 use Rattle.tour_model.specs.Tour.{IsParams, grids_of}
 use Rattle.tour_reader.specs.declared.field.Field.{Field}
 use Rattle.tour_reader.specs.declared.field.Field.TheVariants as field
