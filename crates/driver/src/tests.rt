@@ -323,10 +323,9 @@ fn judges_logs(rt: HostRuntime) -> Result<(), Fail> {
 fn plans_tours(rt: HostRuntime) -> Result<(), Fail> {
     let alloc = rt.alloc();
     let monday = "2026-03-02T06:00";
-    let thursday = "2026-03-05T06:00";
     let cases = [
         (
-            stop(alloc, 240, 60, monday, thursday)?,
+            stop(alloc, 240, 60, monday, "2026-03-02T11:00")?,
             Status::Done,
             "shortest 5:00 from ",
         ),
@@ -336,7 +335,7 @@ fn plans_tours(rt: HostRuntime) -> Result<(), Fail> {
             "infeasible\n",
         ),
         (
-            stop(alloc, 31, 1, "2026-03-02T09:10", thursday)?,
+            stop(alloc, 31, 1, "2026-03-02T09:10", "2026-03-02T10:00")?,
             Status::Done,
             "shortest 1:30 from ",
         ),

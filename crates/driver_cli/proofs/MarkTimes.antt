@@ -18,7 +18,7 @@ use Rattle.duty_core.specs.Params.{unit_minutes}
 use Rattle.duty_core.specs.History.{unit_at, pad_units, padding, padded}
 use Rattle.duty_core.specs.HistoryLaws.{unit_at-behind}
 use Rattle.duty_core.specs.RestRun.{IsRun}
-use Rattle.duty_core.specs.FrontLaws.{NamesRun}
+use Rattle.duty_core.specs.MarkMeaning.{NamesRun}
 use Rattle.duty_core.specs.MarkLaws.{split_names_run, au_unmarked}
 use Rattle.duty_core.specs.MarkListLaws.{no_member}
 use Rattle.duty_core.specs.Lawful.{IsLawfulWith}
