@@ -363,7 +363,8 @@ fn plans_tours(rt: HostRuntime) -> Result<(), Fail> {
 fn plans_behind_a_log(rt: HostRuntime) -> Result<(), Fail> {
     let alloc = rt.alloc();
     // Eleven hours at the wheel up to the start: ten hours of rest have to come first.
-    let tired = "from,to,status\n2026-03-01T18:30,2026-03-02T00:00,D\n2026-03-02T00:00,2026-03-02T00:30,ON\n2026-03-02T00:30,2026-03-02T06:00,D\n";
+    let tired =
+        "from,to,status\n2026-03-01T18:30,2026-03-02T00:00,D\n2026-03-02T00:00,2026-03-02T00:30,ON\n2026-03-02T00:30,2026-03-02T06:00,D\n";
     let cases = [
         (
             "2026-03-02T20:00",

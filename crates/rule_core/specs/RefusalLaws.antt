@@ -92,10 +92,9 @@ refused_exactly {S} params nexts root first h marks s x d timed r =
     let unit : ℕ = unit_minutes params in
     let before : IsTimed params first h = timed_front params first h x timed in
     let none : nexts s (first + unit * length h) x ≡ [] → (l : LastUnit unit nexts root first h marks x) → l.earlier ≡ marks → ⊥ =
-        (λ e l f.
-          let same : l.state ≡ s = d.one h marks l.state s before (subst (λ ms. Reaches unit nexts root first h ms l.state) f l.front) r in
-          subst (λ ns. IsOneOf ns l.next) e (subst (λ t. IsOneOf (nexts t (first + unit * length h) x) l.next) same l.there)) in
-    (
+    (λ e l f.
+    let same : l.state ≡ s = d.one h marks l.state s before (subst (λ ms. Reaches unit nexts root first h ms l.state) f l.front) r in
+    subst (λ ns. IsOneOf ns l.next) e (subst (λ t. IsOneOf (nexts t (first + unit * length h) x) l.next) same l.there)) in (
       (λ e. record {
         unmarked = λ lawful.
             let p = (d.exact (h ++ x ∷ []) marks timed).1 lawful in
