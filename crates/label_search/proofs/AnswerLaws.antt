@@ -1,8 +1,7 @@
 -- What the layers of a search tell of a tour behind a log.
-use Rattle.std.proofs.Common.{◌≡◌, ℕ, ◌+◌, ◌-◌, ◌*◌, ◌<◌, ◌≤◌, Bool, true, List, [], ◌∷◌, ◌++◌, length, refl, sym, ◌∙◌, ap, ap₂, subst, arith, inl, inr, ◌⊎◌}
-use Rattle.std.specs.Prelude.{Option, None, Some, unwrap_or, slice_get}
+use Rattle.std.proofs.Common.{◌≡◌, ℕ, ◌+◌, ◌-◌, ◌*◌, ◌<◌, ◌≤◌, Bool, true, List, ◌++◌, length, refl, sym, ◌∙◌, ap, ap₂, subst, arith, inl, inr}
+use Rattle.std.specs.Prelude.{Option, None, Some, unwrap_or}
 use Rattle.duty_core.specs.declared.activity.Activity.{Activity}
-use Rattle.duty_core.specs.declared.mark.Mark.{Mark}
 use Rattle.duty_core.specs.Params.{unit_minutes, allows}
 use Rattle.duty_core.specs.declared.limits.TheConstants.{LONGEST_LOG}
 use Rattle.rule_core.specs.declared.nexts.Next.{Next}
@@ -15,32 +14,28 @@ use Rattle.tour_model.specs.declared.label.Label.{Label}
 use Rattle.tour_model.specs.declared.tour.Tour.{Tour}
 use Rattle.tour_model.specs.Tour.{IsTour}
 use Rattle.tour_model.specs.Word.{word_length}
-use Rattle.tour_model.specs.Way.{done_after}
 use Rattle.tour_model.specs.Layer.{layer_at}
-use Rattle.tour_model.specs.Schedule.{step_units, log_start, depart_from, duration, IsSolution, IsSolutionWith, IsShortest, IsInfeasible}
-use Rattle.cert_text.specs.declared.grown.Grown.{Grown}
-use Rattle.cert_text.specs.Problem.{Problem, root_label, successors_of, is_better}
+use Rattle.tour_model.specs.Schedule.{log_start, duration, IsSolutionWith}
+use Rattle.cert_text.specs.Problem.{Problem, root_label}
 use Rattle.cert_text.specs.Planning.{minute_of, state_at, problem_of, IsLogState}
-use Rattle.cert_text.specs.Cover.{IsCovered, IsAtLeast, taken, IsTooLong, IsLetOff, IsCoverList}
-use Rattle.cert_text.specs.Continuation.{IsAllowedFrom, Continues, departed_after, takes}
+use Rattle.cert_text.specs.Cover.{IsCovered, IsAtLeast, taken, IsCoverList}
+use Rattle.cert_text.specs.Continuation.{takes}
 use Rattle.cert_text.specs.ProblemLaws.{IsProblem}
 use Rattle.cert_text.specs.BetterLaws.{better_from, better_on}
-use Rattle.cert_text.specs.CoverLaws.{at_least_more, departed_from, no_shorter}
+use Rattle.cert_text.specs.CoverLaws.{departed_from, no_shorter}
 use Rattle.cert_text.specs.ProblemOf.{problem_laws}
 use Rattle.cert_text.specs.SolutionLaws.{log_ends, log_state, solution_by, way_solves_with, no_solution, solution_shortest}
 use Rattle.label_state.specs.declared.kept.Kept.{Kept}
 use Rattle.label_state.specs.declared.kept.Place.{Place}
 use Rattle.label_state.specs.Layers.{labels_of, label_layers, label_count}
-use Rattle.label_state.specs.LayerLaws.{layer_labels, label_kept}
+use Rattle.label_state.specs.LayerLaws.{label_kept}
 use Rattle.label_state.specs.Path.{kept_at, root_of, path_of, way_marks, root_marks, path_marks}
 use Rattle.label_search.specs.declared.best.Best.{Best}
-use Rattle.label_search.specs.declared.by_layers.Searched.{Searched}
-use Rattle.label_search.specs.declared.by_layers.Searched.TheVariants.{Found, Never, Spent}
-use Rattle.label_search.specs.Sound.{IsSound, IsOutdone, IsIdle, IsWorked, HasLabels}
-use Rattle.label_search.specs.Searched.{HasSolution, IsFound, IsNever, IsSpent, IsAnswer, IsWithin, layers_of}
+use Rattle.label_search.specs.Sound.{IsSound}
+use Rattle.label_search.specs.Searched.{HasSolution, IsSpent, IsAnswer, IsWithin, layers_of}
 use Rattle.label_search.specs.Searching.{IsRootState, IsFinishedAt, IsSolved, IsLimit, ended_by}
-use Rattle.label_search.proofs.SoundLaws.{IsGrownFromRoot, sound_way, sound_labels}
-use Rattle.label_search.proofs.SearchLaws.{IsSearching, searched_covers}
+use Rattle.label_search.proofs.SoundLaws.{sound_way, sound_labels}
+use Rattle.label_search.proofs.SearchLaws.{IsSearching}
 use Rattle.label_search.proofs.Places.{one_of_place}
 
 -- a root's state is one of the start

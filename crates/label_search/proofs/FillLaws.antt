@@ -1,19 +1,19 @@
 -- What filling a layer comes to.
-use Rattle.std.proofs.Common.{◌≡◌, ℕ, ◌+◌, ◌-◌, ◌<◌, ◌≤◌, true, false, List, [], ◌∷◌, ◌++◌, length, take, get_or, refl, sym, ◌∙◌, ap, subst, arith, inl, inr, ◌⊎◌, suc, length-append}
-use Rattle.std.specs.Prelude.{Option, None, Some, slice_get, map, ◌==◌}
+use Rattle.std.proofs.Common.{◌≡◌, ℕ, ◌+◌, ◌-◌, ◌<◌, ◌≤◌, true, false, List, [], ◌∷◌, ◌++◌, length, take, refl, sym, ◌∙◌, ap, subst, arith, inl, inr, length-append}
+use Rattle.std.specs.Prelude.{Option, None, Some, ◌==◌}
 use Rattle.std.proofs.lemmas.Bool.Decides.{nat_tests}
 use Rattle.rule_core.specs.Reach.{IsOneOf}
 use Rattle.rule_core.specs.OneOf.{one_of-append, one_of-append_left, one_of-append_right}
 use Rattle.tour_model.specs.declared.label.Label.{Label}
 use Rattle.label_state.specs.declared.kept.Kept.{Kept}
 use Rattle.label_state.specs.Layers.{labels_of, label_count, last_step, last_layer, with_kept}
-use Rattle.label_state.specs.LayerLaws.{one_of_labels, label_kept, layer_new, count_pushed}
+use Rattle.label_state.specs.LayerLaws.{one_of_labels, layer_new, count_pushed}
 use Rattle.cert_text.specs.Problem.{Problem, later, is_better}
 use Rattle.cert_text.specs.Cover.{IsCovered, NoneCovers, NoneIsBetter}
 use Rattle.label_dominance.specs.Offers.{IsFirstCover, IsOffered}
 use Rattle.label_dominance.specs.declared.dominance.Offered.{Offered}
 use Rattle.label_dominance.specs.declared.dominance.Offered.TheVariants as offered
-use Rattle.label_search.specs.Sound.{StandsBefore, AreOrdered}
+use Rattle.label_search.specs.Sound.{StandsBefore}
 use Rattle.label_search.specs.Searching.{IsFilled, AddsLayer}
 use Rattle.label_search.proofs.Places.{one_of_place}
 use Rattle.label_search.proofs.OrderLaws.{ordered_push}

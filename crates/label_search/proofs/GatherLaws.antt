@@ -1,5 +1,5 @@
 -- What gathering the labels for a layer comes to.
-use Rattle.std.proofs.Common.{◌≡◌, ℕ, ◌+◌, ◌-◌, ◌<◌, ◌≤◌, Bool, true, false, List, [], ◌∷◌, ◌++◌, length, take, get_or, refl, sym, ◌∙◌, ap, subst, arith, inl, inr, ◌⊎◌}
+use Rattle.std.proofs.Common.{◌≡◌, ℕ, ◌+◌, ◌-◌, ◌<◌, ◌≤◌, true, false, List, [], ◌∷◌, ◌++◌, length, take, get_or, refl, sym, ◌∙◌, ap, subst, arith, inl, inr, ◌⊎◌}
 use Rattle.std.specs.Prelude.{Option, None, Some, slice_get, nat_le, not}
 use Rattle.std.specs.List.Sorted.{IsPermutation}
 use Rattle.std.proofs.lemmas.List.Sorted.{IsPermutation-sym}
@@ -20,7 +20,7 @@ use Rattle.label_state.specs.LayerLaws.{one_of_labels, label_kept}
 use Rattle.cert_text.specs.Problem.{Problem, root_label, successors_of, later, HasEta}
 use Rattle.cert_text.specs.Cover.{IsAtLeast, IsTooLong, IsLetOff, IsLabelAt}
 use Rattle.label_extend.specs.Growths.{AreGrownAt}
-use Rattle.label_search.specs.Sound.{IsFirst, GrewFrom, StandsBefore, AreOrdered}
+use Rattle.label_search.specs.Sound.{IsFirst, GrewFrom, AreOrdered}
 use Rattle.label_search.specs.Searching.{AreLabelsAt, AreSmall, IsGathered, Gathers, AreGathered, AreFirst, is_long, is_useful}
 use Rattle.label_search.proofs.Places.{one_of_permuted}
 

@@ -1,21 +1,20 @@
 -- What the first guess proves.
-use Rattle.std.proofs.Common.{◌≡◌, ℕ, ◌+◌, ◌-◌, ◌<◌, ◌≤◌, zero, suc, Bool, true, List, [], ◌∷◌, ◌++◌, length, take, get_or, refl, sym, ◌∙◌, ap, ap₂, subst, arith, add-one, inl, inr, ◌⊎◌}
+use Rattle.std.proofs.Common.{◌≡◌, ℕ, ◌+◌, ◌-◌, ◌<◌, ◌≤◌, suc, Bool, List, [], ◌∷◌, ◌++◌, length, take, get_or, refl, sym, ◌∙◌, ap, ap₂, subst, arith, add-one, inl, inr}
 use Rattle.std.specs.Prelude.{Option, None, Some, unwrap_or}
 use Rattle.std.specs.Option.{option_to_list}
 use Rattle.std.proofs.lemmas.List.{take_more, take_all}
 use Rattle.duty_core.specs.declared.activity.Activity.{Activity}
-use Rattle.rule_core.specs.declared.roots.Root.{Root}
 use Rattle.rule_core.specs.Reach.{IsOneOf}
 use Rattle.rule_core.specs.OneOf.{one_of-append, one_of-append_left, one_of-append_right}
 use Rattle.tour_model.specs.declared.label.Label.{Label}
 use Rattle.cert_text.specs.declared.grown.Grown.{Grown}
 use Rattle.cert_text.specs.Problem.{Problem, root_label, successors_of, HasEta}
 use Rattle.cert_text.specs.Cover.{IsLabelAt, taken}
-use Rattle.cert_text.specs.Continuation.{departed_after, takes}
+use Rattle.cert_text.specs.Continuation.{takes}
 use Rattle.cert_text.specs.ProblemLaws.{IsProblem}
 use Rattle.cert_text.specs.CoverLaws.{departed_from}
 use Rattle.label_search.specs.declared.guess.Ranked.{Ranked}
-use Rattle.label_search.specs.Searching.{IsRootState, IsSolved, IsLimit}
+use Rattle.label_search.specs.Searching.{IsSolved, IsLimit}
 use Rattle.label_search.specs.Ways.{IsWay, IsReached, AreReached, AreRankedReached, IsGuess, IsLessOf, IsLeastOf, ArePartsOf}
 use Rattle.label_search.proofs.SoundLaws.{way_more, root_way}
 

@@ -1,5 +1,5 @@
 -- What a search knows at each step, and what follows at its end.
-use Rattle.std.proofs.Common.{◌≡◌, ℕ, ◌+◌, ◌-◌, ◌<◌, ◌≤◌, List, [], ◌∷◌, ◌++◌, length, get_or, refl, sym, ◌∙◌, ap, subst, arith, inl, inr, ◌⊎◌, zero, suc, length-append, Bool, true, false}
+use Rattle.std.proofs.Common.{◌≡◌, ℕ, ◌+◌, ◌-◌, ◌<◌, ◌≤◌, List, [], ◌∷◌, ◌++◌, length, refl, sym, ◌∙◌, ap, subst, arith, inl, inr, ◌⊎◌, zero, suc, length-append, Bool, true, false}
 use Rattle.std.specs.Prelude.{Option, None, Some, slice_get, ◌==◌}
 use Rattle.std.proofs.lemmas.Bool.Decides.{nat_tests}
 use Rattle.std.proofs.lemmas.Bool.{cases_lt}
@@ -9,15 +9,15 @@ use Rattle.rule_core.specs.Reach.{IsOneOf}
 use Rattle.tour_model.specs.declared.label.Label.{Label}
 use Rattle.tour_model.specs.Layer.{layer_at}
 use Rattle.cert_text.specs.declared.grown.Grown.{Grown}
-use Rattle.cert_text.specs.Problem.{Problem, root_label, successors_of, is_better, HasEta}
-use Rattle.cert_text.specs.Cover.{IsCovered, NoneIsBetter, IsAtLeast, taken, IsTooLong, IsLetOff, IsLabelAt, IsAnsweredLayer, IsCoverList}
+use Rattle.cert_text.specs.Problem.{Problem, root_label, successors_of}
+use Rattle.cert_text.specs.Cover.{IsCovered, NoneIsBetter, IsAtLeast, taken, IsTooLong, IsLetOff, IsLabelAt, IsCoverList}
 use Rattle.cert_text.specs.CoverLaws.{at_least_more}
 use Rattle.label_state.specs.declared.kept.Kept.{Kept}
 use Rattle.label_state.specs.declared.kept.Place.{Place}
 use Rattle.label_state.specs.Layers.{labels_of, label_layers, label_count}
-use Rattle.label_state.specs.LayerLaws.{layer_old, layer_new, layer_past, count_pushed, layer_labels, one_of_labels, label_kept}
+use Rattle.label_state.specs.LayerLaws.{layer_old, layer_new, layer_past, count_pushed, layer_labels, label_kept}
 use Rattle.label_search.specs.declared.best.Best.{Best}
-use Rattle.label_search.specs.Sound.{IsFirst, GrewFrom, AreOrdered, IsSound}
+use Rattle.label_search.specs.Sound.{GrewFrom, AreOrdered, IsSound}
 use Rattle.label_search.proofs.FillLaws.{filled_some}
 use Rattle.label_search.specs.Searching.{IsRootState, AreLabelsAt, AreGathered, AreFirst, IsFilled, AddsLayer, IsFinishedAt, IsBestOf}
 

@@ -1,11 +1,10 @@
 -- What stands behind a label of sound layers: its path.
-use Rattle.std.proofs.Common.{◌≡◌, ℕ, ◌+◌, ◌-◌, ◌*◌, ◌<◌, ◌≤◌, zero, suc, Bool, true, false, List, [], ◌∷◌, ◌++◌, length, refl, sym, ◌∙◌, ap, subst, arith, add-one, add-zero, length-append, append-nil, ◌⊎◌, inl, inr}
-use Rattle.std.specs.Prelude.{Option, None, Some, unwrap_or, slice_get, map}
+use Rattle.std.proofs.Common.{◌≡◌, ℕ, ◌+◌, ◌*◌, ◌≤◌, zero, suc, Bool, true, false, List, [], ◌∷◌, ◌++◌, length, refl, sym, ◌∙◌, ap, subst, arith, add-one, add-zero, length-append, append-nil, inl, inr}
+use Rattle.std.specs.Prelude.{None, Some, slice_get}
 use Rattle.std.specs.Option.{option_to_list}
 use Rattle.duty_core.specs.declared.activity.Activity.{Activity}
 use Rattle.duty_core.specs.declared.activity.Activity.TheVariants.{Drive, Serve, Wait, Off, Berth}
 use Rattle.duty_core.specs.declared.mark.Mark.{Mark}
-use Rattle.rule_core.specs.declared.nexts.Next.{Next}
 use Rattle.rule_core.specs.declared.roots.Root.{Root}
 use Rattle.rule_core.specs.Reach.{IsOneOf, Reaches}
 use Rattle.rule_core.specs.ReachLaws.{reaches-append, reached_state}
@@ -14,16 +13,16 @@ use Rattle.tour_model.specs.Layer.{layer_at}
 use Rattle.tour_model.specs.Way.{done, done_after}
 use Rattle.tour_model.specs.Schedule.{depart_from}
 use Rattle.cert_text.specs.declared.grown.Grown.{Grown}
-use Rattle.cert_text.specs.Problem.{Problem, root_label, departed, grow, successors_of, is_better, HasEta}
+use Rattle.cert_text.specs.Problem.{Problem, root_label, departed, successors_of, is_better, HasEta}
 use Rattle.cert_text.specs.Cover.{NoneIsBetter}
 use Rattle.cert_text.specs.Continuation.{IsAllowedFrom}
 use Rattle.cert_text.specs.ProblemLaws.{IsProblem}
-use Rattle.cert_text.specs.BetterLaws.{IsGrown, grown_from, better_itself}
+use Rattle.cert_text.specs.BetterLaws.{grown_from, better_itself}
 use Rattle.label_state.specs.declared.kept.Kept.{Kept}
 use Rattle.label_state.specs.Layers.{labels_of, label_layers, label_count}
 use Rattle.label_state.specs.LayerLaws.{layer_labels, label_kept}
 use Rattle.label_state.specs.Path.{parent_of, acts_of, marks_of, kept_at, root_of, path_of, way_marks}
-use Rattle.label_search.specs.Sound.{IsFirst, GrewFrom, IsSound, IsReachable, AreDistinct, HasLabels}
+use Rattle.label_search.specs.Sound.{IsSound, IsReachable, AreDistinct, HasLabels}
 use Rattle.label_search.specs.Ways.{IsWay}
 use Rattle.label_search.proofs.Places.{one_of_place, place_of_one}
 use Rattle.std.proofs.lemmas.List.Sums.{sum_by-cons}

@@ -1,9 +1,7 @@
 -- What a search answers.
-use Rattle.std.specs.Prelude.{◌≡◌, ℕ, ◌*◌, ◌<◌, ◌≤◌, List, Option, None, Some, slice_get, length}
+use Rattle.std.specs.Prelude.{◌≡◌, ℕ, ◌<◌, ◌≤◌, List, None, Some, slice_get}
 use Rattle.duty_core.specs.declared.activity.Activity.{Activity}
-use Rattle.duty_core.specs.declared.mark.Mark.{Mark}
 use Rattle.rule_core.specs.declared.roots.Root.{Root}
-use Rattle.rule_core.specs.Reach.{IsOneOf}
 use Rattle.tour_model.specs.declared.tour.Tour.{Tour}
 use Rattle.tour_model.specs.Schedule.{duration, IsSolution, IsSolutionWith, IsShortest, IsInfeasible}
 use Rattle.label_state.specs.declared.kept.Kept.{Kept}
@@ -11,11 +9,11 @@ use Rattle.label_state.specs.declared.kept.Place.{Place}
 use Rattle.label_search.specs.declared.by_layers.Searched.{Searched}
 use Rattle.label_search.specs.declared.by_layers.Searched.TheVariants.{Found, Never, Spent}
 use Rattle.tour_model.specs.Layer.{layer_at}
-use Rattle.label_state.specs.Layers.{labels_of, label_layers, label_count}
+use Rattle.label_state.specs.Layers.{label_layers, label_count}
 use Rattle.label_state.specs.Path.{path_of, path_marks}
 use Rattle.cert_text.specs.Problem.{Problem}
 use Rattle.cert_text.specs.Cover.{taken, IsCoverList}
-use Rattle.label_search.specs.Sound.{IsSound, IsWorked, HasLabels}
+use Rattle.label_search.specs.Sound.{IsWorked, HasLabels}
 
 -- Some solution of the tour behind the log takes no more steps than so many.
 pub record HasSolution (tour : Tour) (log : List Activity) (n : ℕ) : Type 0 where

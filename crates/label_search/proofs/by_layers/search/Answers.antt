@@ -1,11 +1,9 @@
-use Rattle.std.proofs.Common.{◌≡◌, ℕ, ◌+◌, ◌-◌, ◌<◌, ◌≤◌, List, [], ◌∷◌, ◌++◌, length, refl, sym, ◌∙◌, ap, subst, arith, rules}
+use Rattle.std.proofs.Common.{◌≡◌, ℕ, ◌+◌, ◌-◌, ◌<◌, ◌≤◌, length, refl, sym, ◌∙◌, ap, subst, arith}
 use Rattle.std.specs.Prelude.{None, vec_len}
-use Rattle.duty_core.specs.declared.activity.Activity.{Activity}
 use Rattle.duty_core.specs.declared.params.Params.{Params}
-use Rattle.duty_core.specs.Params.{unit_minutes, allows, BeginsUnit}
+use Rattle.duty_core.specs.Params.{BeginsUnit}
 use Rattle.rule_core.specs.Machine.{IsMachine}
 use Rattle.rule_core.specs.Reach.{IsOneOf}
-use Rattle.tour_model.specs.declared.tour.Tour.{Tour}
 use Rattle.tour_model.specs.Layer.{layer_at}
 use Rattle.tour_model.specs.LengthLaws.{begins_sooner}
 use Rattle.tour_model.specs.Schedule.{log_start}

@@ -1,8 +1,6 @@
 use Rattle.std.proofs.Common.{◌-◌}
-use Rattle.duty_core.specs.Params.{allows}
 use Rattle.label_state.specs.Layers.{label_count}
 use Rattle.cert_text.specs.Planning.{problem_of, state_at}
-use Rattle.label_search.specs.Searching.{IsRootState, IsLimit}
 use Rattle.label_search.proofs.SearchLaws.{IsSearching}
 use Rattle.label_search.proofs.by_layers.search.Given as goal
 

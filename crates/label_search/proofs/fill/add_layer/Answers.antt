@@ -1,4 +1,4 @@
-use Rattle.std.proofs.Common.{◌≡◌, ◌+◌, ◌≤◌, ◌<◌, ◌∷◌, ◌++◌, [], length, take, get_or, true, sym, ap, subst, ◌∙◌, arith}
+use Rattle.std.proofs.Common.{◌≡◌, ◌≤◌, ◌<◌, length, take, get_or, sym, ap, subst, ◌∙◌, arith}
 use Rattle.std.proofs.lemmas.List.{map-id}
 use Rattle.std.proofs.lemmas.Iterator.Adapters.{YieldsList-from_vec}
 use Rattle.std.proofs.lemmas.Iterator.Consumers.{YieldsList-turn, YieldsList-end, YieldsList-so_far}
@@ -8,14 +8,13 @@ use Rattle.tour_model.specs.Word.{word_length}
 use Rattle.label_state.specs.declared.kept.Kept.{Kept}
 use Rattle.label_state.specs.Layers.{labels_of, last_step, last_layer, label_count}
 use Rattle.label_state.specs.LayerLaws.{label_kept}
-use Rattle.cert_text.specs.Problem.{is_better}
 use Rattle.cert_text.specs.Planning.{problem_of, state_at, minute_of}
 use Rattle.cert_text.specs.Cover.{IsLabelAt}
 use Rattle.label_search.specs.Sound.{StandsBefore}
 use Rattle.label_search.specs.Searching.{AddsLayer}
 use Rattle.label_search.proofs.Places.{one_of_taken}
 use Rattle.label_search.proofs.OrderLaws.{ordered_at}
-use Rattle.label_search.proofs.FillLaws.{step_added, layer_added, adds_first, adds_more, adds_full, better_itself_at}
+use Rattle.label_search.proofs.FillLaws.{step_added, layer_added, adds_more, adds_full, better_itself_at}
 use Rattle.label_search.proofs.fill.add_layer.Goals as goal
 use Rattle.label_search.proofs.fill.add_layer.Goals.{In-Some}
 

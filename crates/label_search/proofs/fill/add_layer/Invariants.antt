@@ -1,4 +1,3 @@
-use Rattle.std.proofs.Common.{◌≡◌, List}
 use Rattle.cert_text.specs.Planning.{problem_of}
 use Rattle.label_search.specs.Searching.{AddsLayer}
 use Rattle.label_search.proofs.fill.add_layer.Given as goal

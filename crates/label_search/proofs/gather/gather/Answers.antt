@@ -1,13 +1,12 @@
-use Rattle.std.proofs.Common.{◌≡◌, ◌+◌, ◌<◌, ◌≤◌, sym, ap, subst, arith}
+use Rattle.std.proofs.Common.{◌+◌, sym, ap, arith}
 use Rattle.duty_core.specs.Params.{unit_minutes}
 use Rattle.rule_core.specs.OneOf.{one_of_item}
 use Rattle.tour_model.specs.Word.{word_length}
 use Rattle.cert_text.specs.Problem.{successors_of}
 use Rattle.cert_text.specs.Planning.{problem_of, state_at}
-use Rattle.cert_text.specs.Cover.{IsLabelAt}
 use Rattle.cert_text.specs.ProblemOf.{word_few}
 use Rattle.label_extend.specs.GrowthLaws.{grown_label}
-use Rattle.label_search.proofs.GatherLaws.{gathering_first, gathering_more, gathered_sorted, labels_gathered, labels_permuted, labels_small}
+use Rattle.label_search.proofs.GatherLaws.{gathering_more, gathered_sorted, labels_gathered, labels_permuted, labels_small}
 use Rattle.label_search.proofs.gather.gather.Goals as goal
 
 pub gather_from-requires-clause-label : goal.gather_from-requires-clause-label

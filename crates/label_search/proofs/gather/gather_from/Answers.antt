@@ -1,4 +1,4 @@
-use Rattle.std.proofs.Common.{◌≡◌, ◌+◌, ◌∷◌, ◌++◌, [], length, true, false, sym, ap, subst, ◌∙◌, arith}
+use Rattle.std.proofs.Common.{◌+◌, ◌∷◌, [], length, sym, ap, subst, ◌∙◌, arith}
 use Rattle.std.proofs.lemmas.List.{map-id}
 use Rattle.std.proofs.lemmas.Iterator.Adapters.{YieldsList-from_vec}
 use Rattle.std.proofs.lemmas.Iterator.Consumers.{YieldsList-turn, YieldsList-end}
@@ -8,7 +8,7 @@ use Rattle.tour_model.specs.Word.{word_length}
 use Rattle.cert_text.specs.Planning.{problem_of, state_at}
 use Rattle.cert_text.specs.Cover.{IsLabelAt}
 use Rattle.label_search.specs.Searching.{Gathers, is_useful}
-use Rattle.label_search.proofs.GatherLaws.{gathers_none, gathers_on, gathers_pushed, gathers_let_off, useless_let_off}
+use Rattle.label_search.proofs.GatherLaws.{gathers_on, gathers_pushed, gathers_let_off, useless_let_off}
 use Rattle.label_search.proofs.gather.gather_from.Goals as goal
 use Rattle.label_search.proofs.gather.gather_from.Goals.{In-Some}
 

@@ -1,4 +1,4 @@
-use Rattle.std.proofs.Common.{◌≡◌, ◌+◌, ◌*◌, [], ◌∷◌, ◌++◌, sym, ap, subst, arith, refl, take}
+use Rattle.std.proofs.Common.{◌≡◌, ◌+◌, sym, subst, arith, refl, take}
 use Rattle.std.specs.Prelude.{None}
 use Rattle.duty_core.specs.declared.activity.Activity.TheVariants.{Off}
 use Rattle.rule_core.specs.OneOf.{one_of_item}

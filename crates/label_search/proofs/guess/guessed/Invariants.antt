@@ -1,9 +1,9 @@
-use Rattle.std.proofs.Common.{◌≡◌, ◌+◌, ◌-◌, ◌<◌, take, List}
+use Rattle.std.proofs.Common.{◌-◌, ◌<◌}
 use Rattle.duty_core.specs.Params.{allows}
 use Rattle.tour_model.specs.declared.limits.TheConstants.{STEP_LIMIT}
 use Rattle.cert_text.specs.Planning.{problem_of, state_at}
 use Rattle.label_search.specs.Searching.{IsRootState}
-use Rattle.label_search.specs.Ways.{AreReached, AreRankedReached, IsGuess, IsLeastOf, ArePartsOf}
+use Rattle.label_search.specs.Ways.{AreReached, IsGuess}
 use Rattle.label_search.proofs.guess.guessed.Given as goal
 
 abbrev pub invariant-loop-step : goal.invariant-loop-step

@@ -1,9 +1,7 @@
-use Rattle.std.proofs.Common.{◌≡◌, ◌+◌, ◌-◌, ◌<◌, take, List}
 use Rattle.duty_core.specs.Params.{allows}
-use Rattle.tour_model.specs.declared.limits.TheConstants.{STEP_LIMIT}
 use Rattle.cert_text.specs.Planning.{problem_of, state_at}
 use Rattle.label_search.specs.Searching.{IsRootState}
-use Rattle.label_search.specs.Ways.{AreReached, AreRankedReached, IsGuess, IsLeastOf, ArePartsOf}
+use Rattle.label_search.specs.Ways.{AreReached}
 use Rattle.label_search.proofs.guess.root_beam.Given as goal
 
 abbrev pub invariant-loop-root : goal.invariant-loop-root
