@@ -1,6 +1,6 @@
 -- A guard beside a machine: a state that goes on by itself, with a test at each unit. It chooses no marks. Where a guard means a rule at a place, a history
 -- passes it exactly where its padded history keeps the rule everywhere.
-use Rattle.std.proofs.Common.{◌≡◌, ◌↔◌, ℕ, ◌+◌, ◌*◌, ◌<◌, ◌≤◌, Bool, true, false, List, [], ◌∷◌, ◌++◌, length, refl, sym, ◌∙◌, ap, subst, arith, append_assoc, append-nil}
+use Rattle.std.proofs.Common.{◌≡◌, ◌↔◌, ℕ, ◌+◌, ◌*◌, Bool, true, false, List, [], ◌∷◌, ◌++◌, length, refl, sym, ◌∙◌, ap, subst, arith, append_assoc, append-nil}
 use Rattle.std.specs.Prelude.{map, if◌then◌else◌}
 use Rattle.std.specs.Option.{option_to_list}
 use Rattle.std.proofs.lemmas.List.{length-replicate}
@@ -96,7 +96,7 @@ passes_sound params first G T ok go d [] p c at e t h w i = subst (λ q. G q i) 
 passes_sound params first G T ok go d (x ∷ xs) p c at e t h w i =
     subst (λ q. G q i) (append_assoc p (x ∷ []) xs)
     (passes_sound params first G T ok go d xs (p ++ x ∷ []) (go c at x) (at + unit_minutes params) (behind_on params first p at x e) (d.on p c at x e t)
-      (holds_more G p x d.rule h (d.sound p c at x e t w.0)) w.1 i)
+    (holds_more G p x d.rule h (d.sound p c at x e t w.0)) w.1 i)
 
 passes_complete : {C : Type 0} (params : Params) (first : ℕ) (G : List Activity → ℕ → Type 0) (T : List Activity → C → Type 0) (ok : C → ℕ → Activity → Bool) (go : C → ℕ → Activity → C) (d : IsGuard params first G T ok go)
     (xs p : List Activity) (c : C) (at : ℕ) → IsBehind params first p at → T p c → ((i : ℕ) → G (p ++ xs) i) → Passes (unit_minutes params) ok go c at xs
@@ -116,4 +116,3 @@ guard_exact params first G T ok go d c h t =
           (passes_sound params first G T ok go d h (padding params) c first e t (holds_padding G (pad_units params) d.rule) w)),
       (λ w. passes_complete params first G T ok go d h (padding params) c first e t (holds_before G (padding params ++ h) (padding params) d.rule w)),
     )
-

@@ -1,11 +1,10 @@
 -- A machine has no successors exactly where no marks help, where a history with its marks reaches one state, and a mark is chosen only where it is first possible.
-use Rattle.std.proofs.Common.{◌≡◌, ◌↔◌, ℕ, ◌+◌, ◌*◌, ◌<◌, ◌≤◌, List, [], ◌∷◌, ◌++◌, length, refl, sym, ◌∙◌, ap, subst, arith, length-append, append-nil, ◌⊎◌, inl, inr, suc}
+use Rattle.std.proofs.Common.{◌≡◌, ◌↔◌, ℕ, ◌+◌, ◌*◌, List, [], ◌∷◌, ◌++◌, length, refl, sym, ◌∙◌, ap, subst, arith, length-append, append-nil, ◌⊎◌, inl, inr, suc}
 use Rattle.std.specs.Prelude.{Option, None, Some}
 use Rattle.std.specs.Option.{option_to_list}
 use Rattle.duty_core.specs.declared.activity.Activity.{Activity}
 use Rattle.duty_core.specs.declared.mark.Mark.{Mark}
 use Rattle.duty_core.specs.declared.params.Params.{Params}
-use Rattle.duty_core.specs.declared.limits.TheConstants.{LONGEST_HISTORY, MINUTE_LIMIT}
 use Rattle.duty_core.specs.Params.{unit_minutes}
 use Rattle.duty_core.specs.History.{IsTimed}
 use Rattle.duty_core.specs.HistoryLaws.{length-one_more}
@@ -92,10 +91,9 @@ refused_exactly {S} params nexts root first h marks s x d timed r =
     let unit : ℕ = unit_minutes params in
     let before : IsTimed params first h = timed_front params first h x timed in
     let none : nexts s (first + unit * length h) x ≡ [] → (l : LastUnit unit nexts root first h marks x) → l.earlier ≡ marks → ⊥ =
-        (λ e l f.
-          let same : l.state ≡ s = d.one h marks l.state s before (subst (λ ms. Reaches unit nexts root first h ms l.state) f l.front) r in
-          subst (λ ns. IsOneOf ns l.next) e (subst (λ t. IsOneOf (nexts t (first + unit * length h) x) l.next) same l.there)) in
-    (
+    (λ e l f.
+    let same : l.state ≡ s = d.one h marks l.state s before (subst (λ ms. Reaches unit nexts root first h ms l.state) f l.front) r in
+    subst (λ ns. IsOneOf ns l.next) e (subst (λ t. IsOneOf (nexts t (first + unit * length h) x) l.next) same l.there)) in (
       (λ e. record {
         unmarked = λ lawful.
             let p = (d.exact (h ++ x ∷ []) marks timed).1 lawful in

@@ -5,6 +5,12 @@ use duty_core::NoMemory;
 use std::alloc::Global;
 use std::marker::Model;
 
+/// The greatest count of numbers that a state has.
+pub const MOST_NUMBERS: u32 = 270;
+
+/// The number that each number of a state is below.
+pub const NUMBER_LIMIT: u32 = 1_000_000;
+
 /// Numbers, in an order. Contracts see their list.
 #[derive(Drop)]
 pub struct Numbers {
