@@ -8,3 +8,4 @@ pub mod Refusal
 pub mod RefusalLaws
 pub mod TourRest
 pub mod StateText
+pub mod RestLaws

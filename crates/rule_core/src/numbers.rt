@@ -44,6 +44,16 @@ impl Numbers {
         Ok(())
     }
 
+    /// These numbers behind the others. Where there is no memory for them, the others stay as they
+    /// were.
+    pub fn extend(&mut self, items: &[u32]) -> Result<(), NoMemory>
+        ensures ok { OnOk result (self.new ≡ self.old ++ items.now) }
+        ensures err { OnErr result (self.new ≡ self.old) }
+    {
+        self.numbers.extend_from_slice(items)?;
+        Ok(())
+    }
+
     /// The numbers, in their order.
     pub fn items(&self) -> &[u32]
         ensures { result.now ≡ self.now }
