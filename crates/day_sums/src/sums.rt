@@ -109,6 +109,13 @@ impl DaySums {
         self.sums = [0; 14];
     }
 
+    /// The duty of the youngest day, in minutes.
+    pub fn today(&self) -> u32
+        ensures { result ≡ today self.now }
+    {
+        self.sums[0]
+    }
+
     /// The duty of all the days, in minutes.
     pub fn total(&self) -> u32
         ensures { result ≡ sum self.now }

@@ -1,5 +1,5 @@
 //! The numbers by which a state is written down.
-ghost use Rattle.std.specs.Prelude.{◌≡◌, [], ◌∷◌, ◌++◌, length, OnOk, OnErr};
+ghost use Rattle.std.specs.Prelude.{◌≡◌, [], ◌∷◌, ◌++◌, length, take, OnOk, OnErr};
 
 use duty_core::NoMemory;
 use std::alloc::Global;
@@ -52,6 +52,13 @@ impl Numbers {
     {
         self.numbers.extend_from_slice(items)?;
         Ok(())
+    }
+
+    /// Leaves the first `n` numbers alone.
+    pub fn truncate(&mut self, n: usize)
+        ensures { self.new ≡ take n self.old }
+    {
+        self.numbers.truncate(n);
     }
 
     /// The numbers, in their order.
