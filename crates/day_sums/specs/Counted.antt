@@ -51,7 +51,7 @@ after_rest restart run sums = if nat_lt run restart then sums else cleared sums
 count_whole : (p : List Activity) (from : ℕ) → duty p from (length p) ≡ count_by works (drop from p)
 count_whole p from = ap (λ l. count_by works (drop from l)) (take_all (length p) p (omega arith))
 
-count_more : (p : List Activity) (x : Activity) (from : ℕ) → from ≤ length p → duty (p ++ x ∷ []) from (length (p ++ x ∷ [])) ≡ duty p from (length p) + cond (works x) 1 0
+pub count_more : (p : List Activity) (x : Activity) (from : ℕ) → from ≤ length p → duty (p ++ x ∷ []) from (length (p ++ x ∷ [])) ≡ duty p from (length p) + cond (works x) 1 0
 count_more p x from l =
     count_whole (p ++ x ∷ []) from
     ∙ (ap (count_by works) (drop-append-le from p (x ∷ []) l)

@@ -1,5 +1,5 @@
 -- Sums of the duty of the last days, in minutes, the youngest day first.
-use Rattle.std.specs.Prelude.{◌≡◌, ℕ, ◌+◌, ◌-◌, ◌≤◌, ◌⊎◌, List, [], ◌∷◌, ◌++◌, length, take, drop, replicate, sum, All}
+use Rattle.std.specs.Prelude.{◌≡◌, ℕ, ◌+◌, ◌-◌, ◌≤◌, ◌⊎◌, zero, suc, Bool, true, nat_le, ◌&&◌, List, [], ◌∷◌, ◌++◌, length, take, drop, replicate, sum, All}
 use Rattle.duty_core.specs.declared.limits.TheConstants.{DAY_MINUTES, US_SHORT_WEEK, CA_CYCLE_1_DAYS, CA_CYCLE_2_DAYS}
 
 -- how many days may be counted: a week of 7 or 8 days, or a cycle of 14
@@ -27,6 +27,15 @@ cleared sums = replicate (length sums) 0
 abbrev pub today : List ℕ → ℕ
 today [] = 0
 today (x ∷ xs) = x
+
+-- After each number of day turns that leaves at most so many days, the sums xs leave no less of the limit than the sums ys.
+abbrev pub LeavesNoLess : ℕ → ℕ → List ℕ → List ℕ → Type 0
+LeavesNoLess limit days xs ys = (n : ℕ) → n ≤ days → limit - first_days n ys ≤ limit - first_days n xs
+
+-- the same as a test
+abbrev pub leaves_no_less : ℕ → ℕ → List ℕ → List ℕ → Bool
+leaves_no_less limit zero xs ys = true
+leaves_no_less limit (suc n) xs ys = nat_le (limit - first_days (suc n) ys) (limit - first_days (suc n) xs) && leaves_no_less limit n xs ys
 
 -- so many days, each of which holds at most its minutes
 pub record AreSums (sums : List ℕ) : Type 0 where

@@ -1,7 +1,7 @@
 //! The sums of the last days.
 ghost use Rattle.std.specs.Prelude.{◌≡◌, ◌+◌, ◌-◌, ◌^◌, ◌<◌, ◌≤◌, ◌↔◌, length, replicate, sum, IsSome, IfSome};
 ghost use Rattle.duty_core.specs.declared.limits.TheConstants.{DAY_MINUTES};
-ghost use Rattle.day_sums.specs.Sums.{IsDays, first_days, added, rolled, cleared, today, AreSums};
+ghost use Rattle.day_sums.specs.Sums.{IsDays, first_days, added, rolled, cleared, today, AreSums, leaves_no_less};
 
 use duty_core::DAY_MINUTES;
 use std::marker::Model;
@@ -109,6 +109,13 @@ impl DaySums {
         self.sums = [0; 14];
     }
 
+    /// The duty of the youngest day, in minutes.
+    pub fn today(&self) -> u32
+        ensures { result ≡ today self.now }
+    {
+        self.sums[0]
+    }
+
     /// The duty of all the days, in minutes.
     pub fn total(&self) -> u32
         ensures { result ≡ sum self.now }
@@ -122,5 +129,20 @@ impl DaySums {
     {
         let days = self.days.saturating_sub(rolls) as usize;
         limit.saturating_sub(sum_of(&self.sums()[..days]))
+    }
+
+    /// Whether these sums leave no less of the limit than the others, of as many days, after each
+    /// number of day turns.
+    pub fn leaves_no_less(&self, other: &DaySums, limit: u32) -> bool
+        requires { length self.now ≡ length other.now }
+        ensures { result ≡ leaves_no_less limit (length self.now) self.now other.now }
+    {
+        let days = self.days();
+        for rolls in 0..days {
+            if other.left_after(limit, rolls) > self.left_after(limit, rolls) {
+                return false;
+            }
+        }
+        true
     }
 }

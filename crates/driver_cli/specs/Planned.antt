@@ -17,8 +17,7 @@ use Rattle.label_search.specs.Searched.{HasSolution}
 use Rattle.driver_cli.specs.declared.plan.Planned.{Planned}
 use Rattle.driver_cli.specs.declared.plan.Planned.TheVariants.{Shortest, Infeasible, Spent}
 use Rattle.us_rules.specs.declared.state.UsState.{UsState}
-use Rattle.us_rules.specs.Machine.{root_state, us_nexts, us_advances, us_idles}
-use Rattle.us_rules.specs.Covers.{covers_state}
+use Rattle.us_rules.specs.Machine.{root_state, us_nexts, us_advances, us_covers, us_idles}
 
 -- Layers that are sound and worked hold as many labels as the budget, and there are at least as many labels.
 pub record IsSpentBy {S : Type 0} (tour : Tour) (log : List Activity) (problem : Problem S) (starts : S → Type 0) (budget : ℕ) : Type 0 where
@@ -38,7 +37,7 @@ IsPlannedBy tour log problem starts budget Spent = IsSpentBy tour log problem st
 
 -- the search problem of the tour and the book of the United States
 abbrev pub us_problem : Tour → Problem UsState
-us_problem tour = problem_of tour (λ s at x n. us_advances (has_berth tour.params) (week_days tour.params) (day_start tour.params) s at x n) (λ a b at. covers_state a b) (λ s. us_idles (has_berth tour.params))
+us_problem tour = problem_of tour (λ s at x n. us_advances (has_berth tour.params) (week_days tour.params) (day_start tour.params) s at x n) (λ a b at. us_covers (has_berth tour.params) (week_days tour.params) (day_start tour.params) a b at) (λ s. us_idles (has_berth tour.params) s)
 
 -- the states of that book that the log reaches
 abbrev pub IsUsLogState : Tour → List Activity → UsState → Type 0

@@ -6,3 +6,6 @@ pub mod Replay
 pub mod Guard
 pub mod Refusal
 pub mod RefusalLaws
+pub mod TourRest
+pub mod StateText
+pub mod RestLaws

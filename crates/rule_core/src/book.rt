@@ -1,5 +1,5 @@
 //! The trait of a rule book, and its laws.
-ghost use Rattle.std.specs.Prelude.{◌≡◌, ◌↔◌, ℕ, ◌+◌, ◌*◌, ◌<◌, ◌≤◌, Bool, true, false, List, [], ◌∷◌, ◌++◌, length, replicate, IfOk, IsOk, IsTrue};
+ghost use Rattle.std.specs.Prelude.{◌≡◌, ◌↔◌, ℕ, ◌+◌, ◌*◌, ◌<◌, ◌≤◌, Bool, true, false, List, [], ◌∷◌, ◌++◌, length, replicate, All, Option, Some, OnOk, OnErr, IfOk, IsOk, IsTrue};
 ghost use Rattle.std.specs.Option.{option_to_list};
 ghost use Rattle.duty_core.specs.declared.activity.Activity.{Activity};
 ghost use Rattle.duty_core.specs.declared.mark.Mark.{Mark};
@@ -9,12 +9,16 @@ ghost use Rattle.duty_core.specs.Params.{unit_minutes, allows, BeginsUnit};
 ghost use Rattle.duty_core.specs.declared.limits.TheConstants.{LONGEST_HISTORY};
 ghost use Rattle.duty_core.specs.History.{IsTimed};
 ghost use Rattle.duty_core.specs.Lawful.{IsLawfulWith};
+ghost use Rattle.duty_core.specs.PlainlyBetter.{IsPlainlyBetter};
+ghost use Rattle.rule_core.specs.declared.numbers.TheConstants.{MOST_NUMBERS, NUMBER_LIMIT};
 ghost use Rattle.rule_core.specs.declared.nexts.Next.{Next};
 ghost use Rattle.rule_core.specs.declared.nexts.Idles.{Idles};
 ghost use Rattle.rule_core.specs.Reach.{listed, idle_list, IsOneOf, Reaches, IsAnswered};
 ghost use Rattle.rule_core.specs.Refusal.{IsRefused};
+ghost use Rattle.rule_core.specs.TourRest.{tour_rest};
 
 use crate::nexts::{Idles, Next, Nexts};
+use crate::numbers::Numbers;
 use duty_core::{Activity, LONGEST_HISTORY, MINUTE_LIMIT, Minute, NoMemory, Params};
 
 /// A rule book, as a machine over states of histories.
@@ -50,6 +54,15 @@ pub trait RuleBook {
 
     /// The idle activities that a search needs to try.
     ghost idles_of: { Self → Self.State → Idles };
+
+    /// Whether resting in place of anything else is always safe.
+    ghost ahead_of: { Self → Self.State → Bool };
+
+    /// The numbers of a state at this minute.
+    ghost numbers_of: { Self → Self.State → ℕ → List ℕ };
+
+    /// The state that has these numbers at this minute, where there is one.
+    ghost state_of: { Self → List ℕ → ℕ → Option Self.State };
 
     /// The book's parameters.
     fn params(&self) -> Params
@@ -111,6 +124,28 @@ pub trait RuleBook {
     fn idles(&self, state: &Self::State) -> Idles
         ensures { result ≡ idles_of self.now state.now };
 
+    /// Whether resting in place of anything else is always safe from the state on: then no other
+    /// activity that a schedule may hold leads to anything that the tour's rest does not cover.
+    fn ahead(&self, state: &Self::State) -> bool
+        ensures { result ≡ ahead_of self.now state.now };
+
+    /// Puts the state's numbers at the minute `at` behind the others. Where there is no memory for
+    /// them, the others stay as they were.
+    fn write_state(
+        &self,
+        state: &Self::State,
+        at: Minute,
+        out: &mut Numbers,
+    ) -> Result<(), NoMemory>
+        requires state { is_state_at self.now state.now at }
+        ensures ok { OnOk result (out.new ≡ out.old ++ numbers_of self.now state.now at) }
+        ensures err { OnErr result (out.new ≡ out.old) };
+
+    /// The state that has these numbers at the minute `at`. `None` exactly where they are those of no
+    /// state there.
+    fn read_state(&self, numbers: &[u32], at: Minute) -> Result<Option<Self::State>, NoMemory>
+        ensures { IfOk result (λ o. o ≡ state_of self.now numbers.now at) };
+
     /// The root is a state.
     ghost root_is_state: { (book : Self) (first : ℕ) → BeginsUnit (params_of book) first → is_state_at book (root_of book first) first };
 
@@ -159,4 +194,31 @@ pub trait RuleBook {
         is_state_at book s at → 1 ≤ n → n ≤ LONGEST_HISTORY → idles x ≡ true → allows (params_of book) x ≡ true → IsOneOf (advances_of book s at x n) t →
         (y : Activity) × IsOneOf (idle_list (idles_of book s)) y
         × IsAnswered (advances_of book s at y n) (λ u. covering book u t.state (at + unit_minutes (params_of book) * n)) };
+
+    /// A state that a history reaches covers each one that a history reaches which is plainly worse.
+    ghost better_covers: { (book : Self) (first : ℕ) (h k : List Activity) (marks others : List Mark) (a b : Self.State) → IsTimed (params_of book) first h →
+        IsPlainlyBetter (params_of book) first h marks k others →
+        Reaches (unit_minutes (params_of book)) (nexts_of book) (root_of book first) first h marks a →
+        Reaches (unit_minutes (params_of book)) (nexts_of book) (root_of book first) first k others b →
+        covering book a b (first + unit_minutes (params_of book) * length h) ≡ true };
+
+    /// Where resting is safe, the tour's rest leads to a state where it still is.
+    ghost ahead_stays: { (book : Self) (a : Self.State) (at : ℕ) → is_state_at book a at → ahead_of book a ≡ true →
+        (u : Next Self.State) × IsOneOf (nexts_of book a at (tour_rest (params_of book))) u × (ahead_of book u.state ≡ true) };
+
+    /// Where resting is safe, the tour's rest leads, for each successor by an activity that a schedule may hold, to a state that covers it, where resting is still safe.
+    ghost ahead_rests: { (book : Self) (a : Self.State) (at : ℕ) (x : Activity) (n : Next Self.State) → is_state_at book a at → ahead_of book a ≡ true →
+        allows (params_of book) x ≡ true → IsOneOf (nexts_of book a at x) n →
+        (u : Next Self.State) × IsOneOf (nexts_of book a at (tour_rest (params_of book))) u × (ahead_of book u.state ≡ true)
+        × (covering book u.state n.state (at + unit_minutes (params_of book)) ≡ true) };
+
+    /// A state is read back from its numbers.
+    ghost numbers_read: { (book : Self) (s : Self.State) (at : ℕ) → is_state_at book s at → state_of book (numbers_of book s at) at ≡ Some s };
+
+    /// What is read is a state, and the numbers are its own.
+    ghost numbers_told: { (book : Self) (ns : List ℕ) (s : Self.State) (at : ℕ) → state_of book ns at ≡ Some s → is_state_at book s at × (numbers_of book s at ≡ ns) };
+
+    /// A state has few numbers, and none of them is large.
+    ghost numbers_few: { (book : Self) (s : Self.State) (at : ℕ) → is_state_at book s at →
+        (length (numbers_of book s at) ≤ MOST_NUMBERS) × All (λ n. n < NUMBER_LIMIT) (numbers_of book s at) };
 }

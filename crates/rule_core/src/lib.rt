@@ -10,6 +10,6 @@ mod roots;
 
 pub use book::RuleBook;
 pub use nexts::{Idles, Next, Nexts};
-pub use numbers::Numbers;
+pub use numbers::{MOST_NUMBERS, NUMBER_LIMIT, Numbers};
 pub use over_log::{Replayed, replay};
 pub use roots::{Root, Roots};

@@ -1,9 +1,15 @@
 //! The numbers by which a state is written down.
-ghost use Rattle.std.specs.Prelude.{◌≡◌, [], ◌∷◌, ◌++◌, length, OnOk, OnErr};
+ghost use Rattle.std.specs.Prelude.{◌≡◌, [], ◌∷◌, ◌++◌, length, take, OnOk, OnErr};
 
 use duty_core::NoMemory;
 use std::alloc::Global;
 use std::marker::Model;
+
+/// The greatest count of numbers that a state has.
+pub const MOST_NUMBERS: u32 = 270;
+
+/// The number that each number of a state is below.
+pub const NUMBER_LIMIT: u32 = 1_000_000;
 
 /// Numbers, in an order. Contracts see their list.
 #[derive(Drop)]
@@ -36,6 +42,23 @@ impl Numbers {
     {
         self.numbers.push(item)?;
         Ok(())
+    }
+
+    /// These numbers behind the others. Where there is no memory for them, the others stay as they
+    /// were.
+    pub fn extend(&mut self, items: &[u32]) -> Result<(), NoMemory>
+        ensures ok { OnOk result (self.new ≡ self.old ++ items.now) }
+        ensures err { OnErr result (self.new ≡ self.old) }
+    {
+        self.numbers.extend_from_slice(items)?;
+        Ok(())
+    }
+
+    /// Leaves the first `n` numbers alone.
+    pub fn truncate(&mut self, n: usize)
+        ensures { self.new ≡ take n self.old }
+    {
+        self.numbers.truncate(n);
     }
 
     /// The numbers, in their order.

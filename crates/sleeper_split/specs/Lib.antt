@@ -15,3 +15,4 @@ pub mod CoverLaws
 pub mod CoverTests
 pub mod BetterLaws
 pub mod Runs
+pub mod MarkedTracks

@@ -16,6 +16,13 @@ pub first_listed : {S : Type 0} (ns : Nexts S) (t : Next S) (l : List (Next S)) 
 first_listed ns t l e first =
     subst (λ m. IsOneOf m t) (ap (λ o. option_to_list o ++ (option_to_list ns.b ++ option_to_list ns.c)) (sym first) ∙ e) (inl refl)
 
+-- so is the one in the middle
+pub middle_listed : {S : Type 0} (ns : Nexts S) (t : Next S) (l : List (Next S)) → listed ns ≡ l → ns.b ≡ Some t → IsOneOf l t
+middle_listed ns t l e middle =
+    subst (λ m. IsOneOf m t) e
+    (one_of-append_right (option_to_list ns.a) (option_to_list ns.b ++ option_to_list ns.c) t
+    (subst (λ o. IsOneOf (option_to_list o ++ option_to_list ns.c) t) (sym middle) (inl refl)))
+
 -- and so is the last
 pub last_listed : {S : Type 0} (ns : Nexts S) (t : Next S) (l : List (Next S)) → listed ns ≡ l → ns.c ≡ Some t → IsOneOf l t
 last_listed ns t l e last =

@@ -1,183 +1,252 @@
--- Equal states, and the idle activities to try.
-use Rattle.std.proofs.Common.{◌≡◌, ℕ, ◌+◌, ◌≤◌, Bool, true, false, List, [], ◌∷◌, refl, sym, ◌∙◌, ap, subst, arith, ◌⊎◌, inl, inr, zero, suc}
-use Rattle.std.specs.Prelude.{Option, None, Some, nat_eq, ◌&&◌}
-use Rattle.std.specs.Str.{bytes_eq}
+-- Which state may stand for which, whatever comes next: the relation, its order, and why it lasts.
+use Rattle.std.proofs.Common.{◌≡◌, ◌↔◌, ℕ, ◌+◌, ◌-◌, ◌*◌, ◌<◌, ◌≤◌, Bool, true, false, cond, List, [], ◌∷◌, ◌++◌, length, refl, sym, ◌∙◌, ap, subst, arith, ◌⊎◌, inl, inr, min}
+use Rattle.std.specs.Prelude.{Option, None, Some, sum, nat_le, nat_lt, ◌&&◌, Contains}
+use Rattle.std.proofs.lemmas.Bool.{cases_lt, cases_Bool}
 use Rattle.std.proofs.lemmas.Bool.Decides.{nat_tests}
-use Rattle.std.proofs.lemmas.Slice.Eq.{bytes_eq-Decides}
+use Rattle.std.proofs.lemmas.List.{take_all}
 use Rattle.duty_core.specs.declared.activity.Activity.{Activity}
 use Rattle.duty_core.specs.declared.activity.Activity.TheVariants.{Drive, Serve, Wait, Off, Berth}
 use Rattle.duty_core.specs.declared.params.Params.TheVariants.{UsProperty}
-use Rattle.duty_core.specs.Activity.{idles}
-use Rattle.duty_core.specs.Params.{allows}
-use Rattle.rule_core.specs.declared.nexts.Next.{Next}
-use Rattle.rule_core.specs.Reach.{idle_list, IsOneOf, IsAnswered}
-use Rattle.sleeper_split.specs.declared.count.Used.{Used}
-use Rattle.sleeper_split.specs.declared.count.OpenRun.{OpenRun}
-use Rattle.sleeper_split.specs.declared.count.WaitingRest.{WaitingRest}
-use Rattle.sleeper_split.specs.declared.count.SplitCount.{SplitCount}
+use Rattle.duty_core.specs.declared.limits.TheConstants.{US_BREAK, US_UNBROKEN_LIMIT, US_RESTART}
+use Rattle.duty_core.specs.Activity.{rests, drives}
+use Rattle.duty_core.specs.UsRules.{us_week_limit}
+use Rattle.day_sums.specs.Sums.{first_days, added, rolled, cleared, LeavesNoLess, leaves_no_less}
+use Rattle.day_sums.specs.SumLaws.{length-added, first_added, cleared_twice}
+use Rattle.day_sums.specs.LeftLaws.{leaves_decides, leaves_same, leaves_over, leaves_cleared, leaves_turned, leaves_added, leaves_more, turned_none}
+use Rattle.day_sums.specs.Counted.{turned, after_rest, length-turned}
+use Rattle.sleeper_split.specs.declared.rule.TheConstants.SplitRule.{US}
+use Rattle.sleeper_split.specs.Covers.{Covers, covers_count, own_rest}
+use Rattle.sleeper_split.specs.CoverLaws.{covers_same, covers_over}
+use Rattle.sleeper_split.specs.CoverTests.{covers_decides}
+use Rattle.sleeper_split.specs.BetterLaws.{us_pair_rule}
 use Rattle.us_rules.specs.declared.state.BreakCount.{BreakCount}
 use Rattle.us_rules.specs.declared.state.WeekCount.{WeekCount}
 use Rattle.us_rules.specs.declared.state.UsState.{UsState}
-use Rattle.us_rules.specs.Machine.{us_nexts, us_advances, us_idles}
-use Rattle.us_rules.specs.Paths.{both_true}
+use Rattle.us_rules.specs.Machine.{break_made, paused, break_after, break_ok, week_made, begins_day, week_rested, week_after, week_ok, IsUsState, break_covers, week_covers, us_covers}
+use Rattle.us_rules.specs.BreakGuard.{paused_cases}
+use Rattle.us_rules.specs.WeekGuard.{length-after_rest}
+use Rattle.us_rules.specs.Paths.{both_true, true_both}
 
-abbrev pub same_used : Used → Used → Bool
-same_used a b = nat_eq a.driving b.driving && (nat_eq a.duty b.duty && nat_eq a.elapsed b.elapsed)
+-- # The relation
 
-abbrev pub same_run : OpenRun → OpenRun → Bool
-same_run a b = nat_eq a.long b.long && (nat_eq a.stretch b.stretch && nat_eq a.longest b.longest)
+pub record BreakCovers (c d : BreakCount) : Type 0 where
+  pub still : d.still ≤ c.still
+  pub driven : c.driven ≤ d.driven
 
-abbrev pub same_waiting : Option WaitingRest → Option WaitingRest → Bool
-same_waiting None None = true
-same_waiting None (Some b) = false
-same_waiting (Some a) None = false
-same_waiting (Some a) (Some b) = nat_eq a.long b.long && nat_eq a.berth b.berth
+pub record WeekCovers (days day_start at : ℕ) (c d : WeekCount) : Type 0 where
+  pub rest : d.rest ≤ c.rest
+  pub sums : LeavesNoLess (us_week_limit days) days (turned (begins_day day_start at) c.sums) (turned (begins_day day_start at) d.sums)
 
-abbrev pub same_split : SplitCount → SplitCount → Bool
-same_split a b = same_run a.run b.run && (same_used a.base b.base && (same_used a.last b.last && same_waiting a.waiting b.waiting))
+pub record UsCovers (berth : Bool) (days day_start : ℕ) (a b : UsState) (at : ℕ) : Type 0 where
+  pub split : Covers US berth a.split b.split
+  pub rest_break : BreakCovers a.rest_break b.rest_break
+  pub week : WeekCovers days day_start at a.week b.week
 
-abbrev pub same_break : BreakCount → BreakCount → Bool
-same_break a b = nat_eq a.still b.still && nat_eq a.driven b.driven
+upto : (a b : ℕ) → nat_le a b ≡ true → a ≤ b
+upto a b h = grind (arith, nat_tests)
 
-abbrev pub same_week : WeekCount → WeekCount → Bool
-same_week a b = nat_eq a.rest b.rest && bytes_eq a.sums b.sums
+is_upto : (a b : ℕ) → a ≤ b → nat_le a b ≡ true
+is_upto a b h = grind (arith, nat_tests)
 
--- equal states
-abbrev pub covers_state : UsState → UsState → Bool
-covers_state a b = same_split a.split b.split && (same_break a.rest_break b.rest_break && same_week a.week b.week)
+covers_means : (berth : Bool) (days day_start : ℕ) (a b : UsState) (at : ℕ) → us_covers berth days day_start a b at ≡ true → UsCovers berth days day_start a b at
+covers_means berth days day_start a b at h =
+    let x = both_true (covers_count US berth a.split b.split) (break_covers a.rest_break b.rest_break && week_covers days day_start at a.week b.week) h in
+    let y = both_true (break_covers a.rest_break b.rest_break) (week_covers days day_start at a.week b.week) x.1 in
+    let turn : Bool = begins_day day_start at in
+    let u = both_true (nat_le b.rest_break.still a.rest_break.still) (nat_le a.rest_break.driven b.rest_break.driven) y.0 in
+    let v = both_true (nat_le b.week.rest a.week.rest) (leaves_no_less (us_week_limit days) days (turned turn a.week.sums) (turned turn b.week.sums)) y.1 in
+    record {
+      split = (covers_decides US berth a.split b.split).0 x.0;
+      rest_break = record { still = upto b.rest_break.still a.rest_break.still u.0; driven = upto a.rest_break.driven b.rest_break.driven u.1 };
+      week = record {
+        rest = upto b.week.rest a.week.rest v.0;
+        sums = (leaves_decides (us_week_limit days) days (turned turn a.week.sums) (turned turn b.week.sums)).0 v.1;
+      };
+    }
 
-is_same : (a b : ℕ) → nat_eq a b ≡ true → a ≡ b
-is_same a b h = grind (arith, nat_tests)
+means_covers : (berth : Bool) (days day_start : ℕ) (a b : UsState) (at : ℕ) → UsCovers berth days day_start a b at → us_covers berth days day_start a b at ≡ true
+means_covers berth days day_start a b at h =
+    let turn : Bool = begins_day day_start at in
+    true_both (covers_count US berth a.split b.split) (break_covers a.rest_break b.rest_break && week_covers days day_start at a.week b.week)
+    ((covers_decides US berth a.split b.split).1 h.split)
+    (true_both (break_covers a.rest_break b.rest_break) (week_covers days day_start at a.week b.week)
+    (true_both (nat_le b.rest_break.still a.rest_break.still) (nat_le a.rest_break.driven b.rest_break.driven)
+    (is_upto b.rest_break.still a.rest_break.still h.rest_break.still) (is_upto a.rest_break.driven b.rest_break.driven h.rest_break.driven))
+    (true_both (nat_le b.week.rest a.week.rest) (leaves_no_less (us_week_limit days) days (turned turn a.week.sums) (turned turn b.week.sums))
+    (is_upto b.week.rest a.week.rest h.week.rest)
+    ((leaves_decides (us_week_limit days) days (turned turn a.week.sums) (turned turn b.week.sums)).1 h.week.sums)))
 
-same_itself : (a : ℕ) → nat_eq a a ≡ true
-same_itself a = grind (arith, nat_tests)
+pub us_covers_decides : (berth : Bool) (days day_start : ℕ) (a b : UsState) (at : ℕ) → (us_covers berth days day_start a b at ≡ true) ↔ UsCovers berth days day_start a b at
+us_covers_decides berth days day_start a b at = (covers_means berth days day_start a b at, means_covers berth days day_start a b at)
 
-both : (a b : Bool) → a ≡ true → b ≡ true → (a && b) ≡ true
-both true true e f = refl
-both true false e f = absurd (let z : false ≡ true = f in cc)
-both false b e f = absurd (let z : false ≡ true = e in cc)
+-- # Order
 
-used_is : (a b : Used) → same_used a b ≡ true → a ≡ b
-used_is a b h =
-    let x = both_true (nat_eq a.driving b.driving) (nat_eq a.duty b.duty && nat_eq a.elapsed b.elapsed) h in
-    let y = both_true (nat_eq a.duty b.duty) (nat_eq a.elapsed b.elapsed) x.1 in
-    let d = is_same a.driving b.driving x.0 in
-    let e = is_same a.duty b.duty y.0 in
-    let f = is_same a.elapsed b.elapsed y.1 in
-    let made : ℕ → ℕ → ℕ → Used = λ u v w. record { driving = u; duty = v; elapsed = w } in
-    ap (λ u. made u a.duty a.elapsed) d ∙ (ap (λ v. made b.driving v a.elapsed) e ∙ ap (made b.driving b.duty) f)
+pub us_same : (berth : Bool) (days day_start : ℕ) (a : UsState) (at : ℕ) → UsCovers berth days day_start a a at
+us_same berth days day_start a at = record {
+  split = covers_same US berth a.split;
+  rest_break = record { still = omega arith; driven = omega arith };
+  week = record { rest = omega arith; sums = leaves_same (us_week_limit days) days (turned (begins_day day_start at) a.week.sums) };
+}
 
-run_is : (a b : OpenRun) → same_run a b ≡ true → a ≡ b
-run_is a b h =
-    let x = both_true (nat_eq a.long b.long) (nat_eq a.stretch b.stretch && nat_eq a.longest b.longest) h in
-    let y = both_true (nat_eq a.stretch b.stretch) (nat_eq a.longest b.longest) x.1 in
-    let d = is_same a.long b.long x.0 in
-    let e = is_same a.stretch b.stretch y.0 in
-    let f = is_same a.longest b.longest y.1 in
-    let made : ℕ → ℕ → ℕ → OpenRun = λ u v w. record { long = u; stretch = v; longest = w } in
-    ap (λ u. made u a.stretch a.longest) d ∙ (ap (λ v. made b.long v a.longest) e ∙ ap (made b.long b.stretch) f)
+pub us_over : (berth : Bool) (days day_start : ℕ) (a b c : UsState) (at : ℕ) → IsUsState berth days day_start a at → UsCovers berth days day_start a b at → UsCovers berth days day_start b c at → UsCovers berth days day_start a c at
+us_over berth days day_start a b c at i h k =
+    let u = h.rest_break.still in let v = h.rest_break.driven in let w = k.rest_break.still in let x = k.rest_break.driven in let y = h.week.rest in let z = k.week.rest in
+    let turn : Bool = begins_day day_start at in
+    record {
+      split = covers_over US berth a.split b.split c.split us_pair_rule i.split h.split k.split;
+      rest_break = record { still = omega arith; driven = omega arith };
+      week = record {
+        rest = omega arith;
+        sums = leaves_over (us_week_limit days) days (turned turn a.week.sums) (turned turn b.week.sums) (turned turn c.week.sums) h.week.sums k.week.sums;
+      };
+    }
 
-waiting_is : (a b : Option WaitingRest) → same_waiting a b ≡ true → a ≡ b
-waiting_is None None h = refl
-waiting_is None (Some b) h = absurd (let z : false ≡ true = h in cc)
-waiting_is (Some a) None h = absurd (let z : false ≡ true = h in cc)
-waiting_is (Some a) (Some b) h =
-    let x = both_true (nat_eq a.long b.long) (nat_eq a.berth b.berth) h in
-    let d = is_same a.long b.long x.0 in
-    let e = is_same a.berth b.berth x.1 in
-    let made : ℕ → ℕ → WaitingRest = λ u v. record { long = u; berth = v } in
-    ap (λ u. Some (made u a.berth)) d ∙ ap (λ v. Some (made b.long v)) e
+-- # Breaks
 
-split_is : (a b : SplitCount) → same_split a b ≡ true → a ≡ b
-split_is a b h =
-    let x = both_true (same_run a.run b.run) (same_used a.base b.base && (same_used a.last b.last && same_waiting a.waiting b.waiting)) h in
-    let y = both_true (same_used a.base b.base) (same_used a.last b.last && same_waiting a.waiting b.waiting) x.1 in
-    let z = both_true (same_used a.last b.last) (same_waiting a.waiting b.waiting) y.1 in
-    let d = run_is a.run b.run x.0 in
-    let e = used_is a.base b.base y.0 in
-    let f = used_is a.last b.last z.0 in
-    let g = waiting_is a.waiting b.waiting z.1 in
-    let made : OpenRun → Used → Used → Option WaitingRest → SplitCount = λ r u v w. record { run = r; base = u; last = v; waiting = w } in
-    ap (λ r. made r a.base a.last a.waiting) d ∙ (ap (λ u. made b.run u a.last a.waiting) e ∙ (ap (λ v. made b.run b.base v a.waiting) f ∙ ap (made b.run b.base b.last) g))
-
-break_is : (a b : BreakCount) → same_break a b ≡ true → a ≡ b
-break_is a b h =
-    let x = both_true (nat_eq a.still b.still) (nat_eq a.driven b.driven) h in
-    let d = is_same a.still b.still x.0 in
-    let e = is_same a.driven b.driven x.1 in
-    let made : ℕ → ℕ → BreakCount = λ u v. record { still = u; driven = v } in
-    ap (λ u. made u a.driven) d ∙ ap (made b.still) e
-
-week_is : (a b : WeekCount) → same_week a b ≡ true → a ≡ b
-week_is a b h =
-    let x = both_true (nat_eq a.rest b.rest) (bytes_eq a.sums b.sums) h in
-    let d = is_same a.rest b.rest x.0 in
-    let e = (bytes_eq-Decides a.sums b.sums).0 x.1 in
-    let made : ℕ → List ℕ → WeekCount = λ u v. record { rest = u; sums = v } in
-    ap (λ u. made u a.sums) d ∙ ap (made b.rest) e
-
-covers_means : (a b : UsState) → covers_state a b ≡ true → a ≡ b
-covers_means a b h =
-    let x = both_true (same_split a.split b.split) (same_break a.rest_break b.rest_break && same_week a.week b.week) h in
-    let y = both_true (same_break a.rest_break b.rest_break) (same_week a.week b.week) x.1 in
-    let d = split_is a.split b.split x.0 in
-    let e = break_is a.rest_break b.rest_break y.0 in
-    let f = week_is a.week b.week y.1 in
-    let made : SplitCount → BreakCount → WeekCount → UsState = λ u v w. record { split = u; rest_break = v; week = w } in
-    ap (λ u. made u a.rest_break a.week) d ∙ (ap (λ v. made b.split v a.week) e ∙ ap (made b.split b.rest_break) f)
-
-used_itself : (a : Used) → same_used a a ≡ true
-used_itself a = both _ _ (same_itself a.driving) (both _ _ (same_itself a.duty) (same_itself a.elapsed))
-
-run_itself : (a : OpenRun) → same_run a a ≡ true
-run_itself a = both _ _ (same_itself a.long) (both _ _ (same_itself a.stretch) (same_itself a.longest))
-
-waiting_itself : (a : Option WaitingRest) → same_waiting a a ≡ true
-waiting_itself None = refl
-waiting_itself (Some a) = both _ _ (same_itself a.long) (same_itself a.berth)
-
-pub us_covers_itself : (s : UsState) → covers_state s s ≡ true
-us_covers_itself s =
-    both _ _ (both _ _ (run_itself s.split.run) (both _ _ (used_itself s.split.base) (both _ _ (used_itself s.split.last) (waiting_itself s.split.waiting))))
-    (both _ _ (both _ _ (same_itself s.rest_break.still) (same_itself s.rest_break.driven)) (both _ _ (same_itself s.week.rest) ((bytes_eq-Decides s.week.sums s.week.sums).1 refl)))
-
-pub us_covers_on : (a b c : UsState) → covers_state a b ≡ true → covers_state b c ≡ true → covers_state a c ≡ true
-us_covers_on a b c h i = subst (λ s. covers_state a s ≡ true) (covers_means b c i) h
-
-pub us_simulation : (berth : Bool) (days day_start : ℕ) (a b : UsState) (at : ℕ) (x : Activity) (n : Next UsState) → covers_state a b ≡ true → IsOneOf (us_nexts berth days day_start b at x) n →
-    IsAnswered (us_nexts berth days day_start a at x) (λ t. covers_state t n.state)
-us_simulation berth days day_start a b at x n h o = (n, subst (λ s. IsOneOf (us_nexts berth days day_start s at x) n) (sym (covers_means a b h)) o, us_covers_itself n.state)
-
--- # Idle activities
-
-pub us_idles_allowed : (berth : Bool) (days day_start : ℕ) (y : Activity) → IsOneOf (idle_list (us_idles berth)) y → (idles y ≡ true) × (allows (UsProperty berth days day_start) y ≡ true)
-us_idles_allowed true days day_start y h = elim h [
-  | inl e ↦ subst (λ x. (idles x ≡ true) × (allows (UsProperty true days day_start) x ≡ true)) e (refl, refl)
-  | inr t ↦ elim t [
-    | inl e ↦ subst (λ x. (idles x ≡ true) × (allows (UsProperty true days day_start) x ≡ true)) e (refl, refl)
-    | inr z ↦ absurd z
+paused_covers : (c d : BreakCount) → BreakCovers c d → BreakCovers (paused c) (paused d)
+paused_covers c d h = let s = h.still in let v = h.driven in elim (paused_cases c) [
+  | inl x ↦ elim (paused_cases d) [
+    | inl y ↦ subst (λ e. BreakCovers e (paused d)) (sym x.1) (subst (λ e. BreakCovers (break_made (c.still + 1) c.driven) e) (sym y.1) (record { still = omega arith; driven = v }))
+    | inr y ↦ absurd (let a = x.0 in let b = y.0 in omega arith)
   ]
-]
-us_idles_allowed false days day_start y h = elim h [
-  | inl e ↦ subst (λ x. (idles x ≡ true) × (allows (UsProperty false days day_start) x ≡ true)) e (refl, refl)
-  | inr t ↦ elim t [
-    | inl e ↦ subst (λ x. (idles x ≡ true) × (allows (UsProperty false days day_start) x ≡ true)) e (refl, refl)
-    | inr z ↦ absurd z
+  | inr x ↦ elim (paused_cases d) [
+    | inl y ↦ subst (λ e. BreakCovers e (paused d)) (sym x.1) (subst (λ e. BreakCovers (break_made US_BREAK 0) e) (sym y.1) (let a = y.0 in record { still = omega arith; driven = omega arith }))
+    | inr y ↦ subst (λ e. BreakCovers e (paused d)) (sym x.1) (subst (λ e. BreakCovers (break_made US_BREAK 0) e) (sym y.1) (record { still = omega arith; driven = omega arith }))
   ]
 ]
 
--- the idle activities that a schedule may hold are all tried
-idles_are : (berth : Bool) (days day_start : ℕ) (x : Activity) → idles x ≡ true → allows (UsProperty berth days day_start) x ≡ true → IsOneOf (idle_list (us_idles berth)) x
-idles_are berth days day_start Drive i a = absurd (let z : false ≡ true = i in cc)
-idles_are berth days day_start Serve i a = absurd (let z : false ≡ true = i in cc)
-idles_are true days day_start Wait i a = inr (inl refl)
-idles_are false days day_start Wait i a = inr (inl refl)
-idles_are true days day_start Off i a = absurd (let z : false ≡ true = a in cc)
-idles_are false days day_start Off i a = inl refl
-idles_are true days day_start Berth i a = inl refl
-idles_are false days day_start Berth i a = absurd (let z : false ≡ true = a in cc)
+pub break_covers_on : (c d : BreakCount) (at : ℕ) (x : Activity) → BreakCovers c d → BreakCovers (break_after c at x) (break_after d at x)
+break_covers_on c d at Drive h = let v = h.driven in record { still = omega arith; driven = omega arith }
+break_covers_on c d at Serve h = paused_covers c d h
+break_covers_on c d at Wait h = paused_covers c d h
+break_covers_on c d at Off h = paused_covers c d h
+break_covers_on c d at Berth h = paused_covers c d h
 
-pub us_idles_cover : (berth : Bool) (days day_start : ℕ) (s : UsState) (at : ℕ) (x : Activity) (n : ℕ) (t : Next UsState) → idles x ≡ true → allows (UsProperty berth days day_start) x ≡ true →
-    IsOneOf (us_advances berth days day_start s at x n) t →
-    (y : Activity) × IsOneOf (idle_list (us_idles berth)) y × IsAnswered (us_advances berth days day_start s at y n) (λ u. covers_state u t.state)
-us_idles_cover berth days day_start s at x n t i a o = (x, idles_are berth days day_start x i a, (t, o, us_covers_itself t.state))
+is_below : (a b : ℕ) → a < b → nat_lt a b ≡ true
+is_below a b h = grind (arith, nat_tests)
+
+below : (a b : ℕ) → nat_lt a b ≡ true → a < b
+below a b h = grind (arith, nat_tests)
+
+pub break_covers_ok : (c d : BreakCount) (at : ℕ) (x : Activity) → BreakCovers c d → break_ok d at x ≡ true → break_ok c at x ≡ true
+break_covers_ok c d at Drive h k = let v = h.driven in let l = below d.driven US_UNBROKEN_LIMIT k in is_below c.driven US_UNBROKEN_LIMIT (omega arith)
+break_covers_ok c d at Serve h k = refl
+break_covers_ok c d at Wait h k = refl
+break_covers_ok c d at Off h k = refl
+break_covers_ok c d at Berth h k = refl
+
+paused_less : (c : BreakCount) → (paused c).driven ≤ c.driven
+paused_less c = elim (paused_cases c) [
+  | inl x ↦ subst (λ e. e.driven ≤ c.driven) (sym x.1) (omega arith)
+  | inr x ↦ subst (λ e. e.driven ≤ c.driven) (sym x.1) (omega arith)
+]
+
+-- a pause against any other unit
+pub pause_covers : (c : BreakCount) (at : ℕ) (x : Activity) → BreakCovers (paused c) (break_after c at x)
+pause_covers c at Drive = let l = paused_less c in record { still = omega arith; driven = omega arith }
+pause_covers c at Serve = record { still = omega arith; driven = omega arith }
+pause_covers c at Wait = record { still = omega arith; driven = omega arith }
+pause_covers c at Off = record { still = omega arith; driven = omega arith }
+pause_covers c at Berth = record { still = omega arith; driven = omega arith }
+
+-- # Weeks
+
+-- what a state's week is counted by
+pub record HasDays (days : ℕ) (c : WeekCount) : Type 0 where
+  pub counted : length c.sums ≡ days
+  pub some : 0 < days
+
+rested_cases : (run : ℕ) (sums : List ℕ) → ((run < US_RESTART) × (after_rest US_RESTART run sums ≡ sums)) ⊎ ((US_RESTART ≤ run) × (after_rest US_RESTART run sums ≡ cleared sums))
+rested_cases run sums = elim (cases_lt run US_RESTART) [ inl l ↦ inl (l, grind (arith, nat_tests)) | inr l ↦ inr (l, grind (arith, nat_tests)) ]
+
+-- where no duty is left
+cleared_covers : (limit days : ℕ) (turn : Bool) (zs xs ys : List ℕ) → zs ≡ cleared xs → LeavesNoLess limit days (turned turn zs) ys
+cleared_covers limit days turn zs xs ys e = leaves_cleared limit days (turned turn zs) ys (turned_none turn zs (e ∙ (cleared_twice xs ∙ ap cleared (sym e))))
+
+rested_covers : (days day_start at : ℕ) (c d : WeekCount) → HasDays days c → HasDays days d → WeekCovers days day_start at c d →
+    WeekCovers days day_start (at + 1) (week_rested c.rest (turned (begins_day day_start at) c.sums)) (week_rested d.rest (turned (begins_day day_start at) d.sums))
+rested_covers days day_start at c d hc hd h =
+    let xs : List ℕ = turned (begins_day day_start at) c.sums in
+    let ys : List ℕ = turned (begins_day day_start at) d.sums in
+    let r = h.rest in
+    let a = hc.counted in
+    let b = hd.counted in
+    let turn : Bool = begins_day day_start (at + 1) in
+    record {
+      rest = omega arith;
+      sums = elim (rested_cases (c.rest + 1) xs) [
+        | inr u ↦ cleared_covers (us_week_limit days) days turn (after_rest US_RESTART (c.rest + 1) xs) xs (turned turn (after_rest US_RESTART (d.rest + 1) ys)) u.1
+        | inl u ↦ elim (rested_cases (d.rest + 1) ys) [
+          | inr v ↦ absurd (let m = u.0 in let n = v.0 in omega arith)
+          | inl v ↦ subst (λ zs. LeavesNoLess (us_week_limit days) days (turned turn zs) (turned turn (after_rest US_RESTART (d.rest + 1) ys))) (sym u.1)
+              (subst (λ zs. LeavesNoLess (us_week_limit days) days (turned turn xs) (turned turn zs)) (sym v.1)
+              (leaves_turned (us_week_limit days) days turn xs ys (omega (arith, length-turned (begins_day day_start at) c.sums)) (omega (arith, length-turned (begins_day day_start at) d.sums)) h.sums))
+        ]
+      ];
+    }
+
+worked_covers : (days day_start at : ℕ) (c d : WeekCount) → HasDays days c → HasDays days d → WeekCovers days day_start at c d →
+    WeekCovers days day_start (at + 1) (week_made 0 (added 1 (turned (begins_day day_start at) c.sums))) (week_made 0 (added 1 (turned (begins_day day_start at) d.sums)))
+worked_covers days day_start at c d hc hd h =
+    let xs : List ℕ = turned (begins_day day_start at) c.sums in
+    let ys : List ℕ = turned (begins_day day_start at) d.sums in
+    let a : length xs ≡ days = length-turned (begins_day day_start at) c.sums ∙ hc.counted in
+    let b : length ys ≡ days = length-turned (begins_day day_start at) d.sums ∙ hd.counted in
+    let s = hc.some in
+    record {
+      rest = omega arith;
+      sums = leaves_turned (us_week_limit days) days (begins_day day_start (at + 1)) (added 1 xs) (added 1 ys) (omega (arith, length-added 1 xs)) (omega (arith, length-added 1 ys))
+          (leaves_added (us_week_limit days) days 1 xs ys (omega arith) (omega arith) h.sums);
+    }
+
+pub week_covers_on : (days day_start at : ℕ) (c d : WeekCount) (x : Activity) → HasDays days c → HasDays days d → WeekCovers days day_start at c d → WeekCovers days day_start (at + 1) (week_after day_start c at x) (week_after day_start d at x)
+week_covers_on days day_start at c d Drive hc hd h = worked_covers days day_start at c d hc hd h
+week_covers_on days day_start at c d Serve hc hd h = worked_covers days day_start at c d hc hd h
+week_covers_on days day_start at c d Wait hc hd h = worked_covers days day_start at c d hc hd h
+week_covers_on days day_start at c d Off hc hd h = rested_covers days day_start at c d hc hd h
+week_covers_on days day_start at c d Berth hc hd h = rested_covers days day_start at c d hc hd h
+
+-- all the days with a minute more
+whole_added : (days : ℕ) (xs : List ℕ) → length xs ≡ days → 0 < days → sum (added 1 xs) ≡ first_days days xs + 1
+whole_added days xs e s = let l : length (added 1 xs) ≤ days = omega (arith, length-added 1 xs) in sym (ap sum (take_all days (added 1 xs) l)) ∙ first_added days 1 xs s (omega arith)
+
+pub week_covers_ok : (days day_start at : ℕ) (c d : WeekCount) (x : Activity) → HasDays days c → HasDays days d → WeekCovers days day_start at c d → week_ok days day_start d at x ≡ true → week_ok days day_start c at x ≡ true
+week_covers_ok days day_start at c d Drive hc hd h k =
+    let xs : List ℕ = turned (begins_day day_start at) c.sums in
+    let ys : List ℕ = turned (begins_day day_start at) d.sums in
+    let a = whole_added days xs (length-turned (begins_day day_start at) c.sums ∙ hc.counted) hc.some in
+    let b = whole_added days ys (length-turned (begins_day day_start at) d.sums ∙ hd.counted) hd.some in
+    let l : sum (added 1 ys) ≤ us_week_limit days = upto (sum (added 1 ys)) (us_week_limit days) k in
+    let m : us_week_limit days - first_days days ys ≤ us_week_limit days - first_days days xs = h.sums days (omega arith) in
+    is_upto (sum (added 1 xs)) (us_week_limit days) (omega arith)
+week_covers_ok days day_start at c d Serve hc hd h k = refl
+week_covers_ok days day_start at c d Wait hc hd h k = refl
+week_covers_ok days day_start at c d Off hc hd h k = refl
+week_covers_ok days day_start at c d Berth hc hd h k = refl
+
+week_itself : (days day_start at : ℕ) (c : WeekCount) → WeekCovers days day_start at c c
+week_itself days day_start at c = record { rest = omega arith; sums = leaves_same (us_week_limit days) days (turned (begins_day day_start at) c.sums) }
+
+rest_against_duty : (days day_start at : ℕ) (c : WeekCount) → HasDays days c →
+    WeekCovers days day_start (at + 1) (week_rested c.rest (turned (begins_day day_start at) c.sums)) (week_made 0 (added 1 (turned (begins_day day_start at) c.sums)))
+rest_against_duty days day_start at c hc =
+    let xs : List ℕ = turned (begins_day day_start at) c.sums in
+    let a : length xs ≡ days = length-turned (begins_day day_start at) c.sums ∙ hc.counted in
+    let s = hc.some in
+    let turn : Bool = begins_day day_start (at + 1) in
+    record {
+      rest = omega arith;
+      sums = elim (rested_cases (c.rest + 1) xs) [
+        | inr u ↦ cleared_covers (us_week_limit days) days turn (after_rest US_RESTART (c.rest + 1) xs) xs (turned turn (added 1 xs)) u.1
+        | inl u ↦ subst (λ zs. LeavesNoLess (us_week_limit days) days (turned turn zs) (turned turn (added 1 xs))) (sym u.1)
+            (leaves_turned (us_week_limit days) days turn xs (added 1 xs) (omega arith) (omega (arith, length-added 1 xs)) (leaves_more (us_week_limit days) days 1 xs (omega arith)))
+      ];
+    }
+
+-- rest against any other unit
+pub week_rest_covers : (days day_start at : ℕ) (c : WeekCount) (x : Activity) → HasDays days c → WeekCovers days day_start (at + 1) (week_rested c.rest (turned (begins_day day_start at) c.sums)) (week_after day_start c at x)
+week_rest_covers days day_start at c Drive hc = rest_against_duty days day_start at c hc
+week_rest_covers days day_start at c Serve hc = rest_against_duty days day_start at c hc
+week_rest_covers days day_start at c Wait hc = rest_against_duty days day_start at c hc
+week_rest_covers days day_start at c Off hc = week_itself days day_start (at + 1) (week_rested c.rest (turned (begins_day day_start at) c.sums))
+week_rest_covers days day_start at c Berth hc = week_itself days day_start (at + 1) (week_rested c.rest (turned (begins_day day_start at) c.sums))

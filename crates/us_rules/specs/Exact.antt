@@ -101,7 +101,7 @@ split_behind berth days day_start h a s = elim (cases_lt a PADDING_MINUTES) [
 pub starts_have : (berth : Bool) (days day_start first : ℕ) (h : List Activity) (starts : List ℕ) → ((a : ℕ) → Contains starts a → MaySplit US berth (padded (UsProperty berth days day_start) h) a) → HaveMinutes first starts
 starts_have berth days day_start first h starts s k i = let l = split_behind berth days day_start h k (s k i) in omega arith
 
-same_marks : (berth : Bool) (days day_start first : ℕ) (starts : List ℕ) → HaveMinutes first starts → AreSame (Contains starts) (IsSplitAt (UsProperty berth days day_start) first (map (mark_at first) starts))
+pub same_marks : (berth : Bool) (days day_start first : ℕ) (starts : List ℕ) → HaveMinutes first starts → AreSame (Contains starts) (IsSplitAt (UsProperty berth days day_start) first (map (mark_at first) starts))
 same_marks berth days day_start first starts have = record {
   marks = λ a i. place_marked berth days day_start first starts a have i;
   back = λ a i. marked_place berth days day_start first starts a have i;

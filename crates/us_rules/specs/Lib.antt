@@ -8,5 +8,9 @@ pub mod Exact
 pub mod States
 pub mod Advance
 pub mod Covers
+pub mod Lasting
+pub mod Better
+pub mod Numbers
+pub mod NumberLaws
 pub mod Single
 pub mod Ends

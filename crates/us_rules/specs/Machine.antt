@@ -1,5 +1,5 @@
 -- The machine of the United States: states, successors, and many equal units.
-use Rattle.std.specs.Prelude.{◌≡◌, ℕ, ◌+◌, ◌-◌, ◌%◌, ◌≤◌, ◌⊎◌, zero, suc, min, sum, length, replicate, Bool, true, cond, List, [], ◌∷◌, ◌++◌, map, flat_map, Option, None, Some, nat_eq, nat_lt, nat_le, ◌==◌, ◌&&◌, if◌then◌else◌}
+use Rattle.std.specs.Prelude.{◌≡◌, ℕ, ◌+◌, ◌-◌, ◌%◌, ◌≤◌, ◌⊎◌, zero, suc, min, sum, length, replicate, Bool, true, cond, List, [], ◌∷◌, ◌++◌, map, flat_map, Option, None, Some, nat_eq, nat_lt, nat_le, ◌==◌, ◌&&◌, if◌then◌else◌, All}
 use Rattle.std.specs.Option.{option_to_list}
 use Rattle.duty_core.specs.declared.activity.Activity.{Activity}
 use Rattle.duty_core.specs.declared.activity.Activity.TheVariants.{Drive, Serve, Wait, Off, Berth}
@@ -10,13 +10,14 @@ use Rattle.duty_core.specs.Activity.{rests, drives}
 use Rattle.duty_core.specs.UsRules.{us_week_limit}
 use Rattle.rule_core.specs.declared.nexts.Next.{Next}
 use Rattle.rule_core.specs.declared.nexts.Idles.{Idles}
-use Rattle.day_sums.specs.Sums.{added, today}
+use Rattle.day_sums.specs.Sums.{added, today, leaves_no_less}
 use Rattle.day_sums.specs.Counted.{turned, after_rest}
 use Rattle.sleeper_split.specs.declared.rule.TheConstants.SplitRule.{US}
 use Rattle.sleeper_split.specs.declared.count.SplitCount.{SplitCount}
 use Rattle.sleeper_split.specs.declared.count.Since.TheVariants.{Driving, Elapsed}
-use Rattle.sleeper_split.specs.Machine.{IsSplitCount, fresh_count, after_duty, end_undeclared, end_split, end_full, used_of, run_of}
+use Rattle.sleeper_split.specs.Machine.{fresh_count, after_duty, end_undeclared, end_split, end_full, used_of, run_of}
 use Rattle.sleeper_split.specs.Choices.{Choice, choices, sleeps}
+use Rattle.sleeper_split.specs.Covers.{IsCountOf, own_rest, is_ahead, covers_count}
 use Rattle.us_rules.specs.declared.state.BreakCount.{BreakCount}
 use Rattle.us_rules.specs.declared.state.WeekCount.{WeekCount}
 use Rattle.us_rules.specs.declared.state.UsState.{UsState}
@@ -116,17 +117,36 @@ us_advances berth days day_start s at x (suc n) = flat_map (λ t. marked_next t.
 abbrev pub day_so_far : ℕ → ℕ → ℕ
 day_so_far day_start at = (at + (DAY_MINUTES - day_start) + (DAY_MINUTES - 1)) % DAY_MINUTES + 1
 
--- The numbers of a state at this minute are in range, and the youngest day holds no more duty than minutes so far.
-pub record IsUsState (days day_start : ℕ) (s : UsState) (at : ℕ) : Type 0 where
-  pub split : IsSplitCount s.split
+-- The numbers of a state at this minute are in range: a split rest waits only where there is a berth, each day holds no more duty than minutes, and the youngest one no more than its minutes so far.
+pub record IsUsState (berth : Bool) (days day_start : ℕ) (s : UsState) (at : ℕ) : Type 0 where
+  pub split : IsCountOf US berth s.split
   pub still : s.rest_break.still ≤ US_BREAK
   pub driven : s.rest_break.driven ≤ US_UNBROKEN_LIMIT
   pub rest : s.week.rest ≤ US_RESTART
   pub days_counted : length s.week.sums ≡ days
+  pub within : All (λ n. n ≤ DAY_MINUTES) s.week.sums
   pub day : today s.week.sums ≤ day_so_far day_start at
+
+-- # Which state may stand for which
+
+-- the time without driving is as long, and the driving since the break no more
+abbrev pub break_covers : BreakCount → BreakCount → Bool
+break_covers c d = nat_le d.still c.still && nat_le c.driven d.driven
+
+-- The rest is as long, and by the day of this minute no less of the limit is left after each number of day turns.
+abbrev pub week_covers : ℕ → ℕ → ℕ → WeekCount → WeekCount → Bool
+week_covers days day_start at c d =
+    nat_le d.rest c.rest && leaves_no_less (us_week_limit days) days (turned (begins_day day_start at) c.sums) (turned (begins_day day_start at) d.sums)
+
+abbrev pub us_covers : Bool → ℕ → ℕ → UsState → UsState → ℕ → Bool
+us_covers berth days day_start a b at = covers_count US berth a.split b.split && (break_covers a.rest_break b.rest_break && week_covers days day_start at a.week b.week)
 
 -- # Idle activities
 
--- the tour's own rest, and waiting
-abbrev pub us_idles : Bool → Idles
-us_idles berth = record { first = if berth then Berth else Off; second = Some Wait }
+-- Resting in place of anything else is safe: no split rest waits for its pair, or the rest run in progress is all in the berth.
+abbrev pub us_ahead : Bool → UsState → Bool
+us_ahead berth s = is_ahead US berth s.split
+
+-- the tour's own rest, and waiting where resting may be worse
+abbrev pub us_idles : Bool → UsState → Idles
+us_idles berth s = record { first = own_rest berth; second = cond (us_ahead berth s) None (Some Wait) }

@@ -38,7 +38,7 @@ both_true true true e = (refl, refl)
 both_true true false e = absurd (let z : false ≡ true = e in cc)
 both_true false b e = absurd (let z : false ≡ true = e in cc)
 
-true_both : (a b : Bool) → a ≡ true → b ≡ true → (a && b) ≡ true
+pub true_both : (a b : Bool) → a ≡ true → b ≡ true → (a && b) ≡ true
 true_both true true e f = refl
 true_both true false e f = absurd (let z : false ≡ true = f in cc)
 true_both false b e f = absurd (let z : false ≡ true = e in cc)

@@ -1,9 +1,10 @@
 -- What a state is: of the root, and of each successor.
 use Rattle.std.proofs.Common.{◌≡◌, ℕ, ◌+◌, ◌-◌, ◌%◌, ◌<◌, ◌≤◌, Bool, true, false, cond, List, [], ◌∷◌, length, refl, sym, ◌∙◌, ap, subst, arith, ◌⊎◌, inl, inr, min, max}
-use Rattle.std.specs.Prelude.{Option, None, Some, replicate, Contains}
+use Rattle.std.specs.Prelude.{Option, None, Some, replicate, All}
 use Rattle.std.proofs.lemmas.Bool.{cases_lt, cases_eq, cases_Bool}
 use Rattle.std.proofs.lemmas.Bool.Decides.{nat_tests}
 use Rattle.std.proofs.lemmas.List.{length-replicate}
+use Rattle.std.proofs.lemmas.List.Elements.{All-cons, All-tail, All-take, All-replicate}
 use Rattle.duty_core.specs.declared.activity.Activity.{Activity}
 use Rattle.duty_core.specs.declared.activity.Activity.TheVariants.{Drive, Serve, Wait, Off, Berth}
 use Rattle.duty_core.specs.declared.limits.TheConstants.{DAY_MINUTES, COUNT_LIMIT, US_BREAK, US_UNBROKEN_LIMIT, US_RESTART, US_SHORT_WEEK}
@@ -14,12 +15,8 @@ use Rattle.day_sums.specs.Sums.{IsDays, added, rolled, cleared, today}
 use Rattle.day_sums.specs.SumLaws.{length-added, length-rolled, length-cleared, today_rolled, today_cleared, today_added}
 use Rattle.day_sums.specs.Counted.{turned, after_rest, length-turned}
 use Rattle.sleeper_split.specs.declared.rule.TheConstants.SplitRule.{US}
-use Rattle.sleeper_split.specs.declared.count.Used.{Used}
-use Rattle.sleeper_split.specs.declared.count.OpenRun.{OpenRun}
-use Rattle.sleeper_split.specs.declared.count.SplitCount.{SplitCount}
-use Rattle.sleeper_split.specs.Machine.{IsUsed, IsOpenRun, IsWithin, IsSplitCount, longer, rested, worked, after_rest as count_rest, after_duty, split_count, rested_count, fresh_count}
-use Rattle.sleeper_split.specs.Choices.{Choice, sleeps}
-use Rattle.sleeper_split.specs.ChoiceLaws.{IsChoice}
+use Rattle.sleeper_split.specs.Covers.{IsCountOf}
+use Rattle.sleeper_split.specs.CoverLaws.{fresh_kept, choice_kept}
 use Rattle.us_rules.specs.declared.state.BreakCount.{BreakCount}
 use Rattle.us_rules.specs.declared.state.WeekCount.{WeekCount}
 use Rattle.us_rules.specs.declared.state.UsState.{UsState}
@@ -27,94 +24,6 @@ use Rattle.us_rules.specs.Machine.{us_fits, break_made, paused, break_after, bre
 use Rattle.us_rules.specs.BreakGuard.{paused_cases}
 use Rattle.us_rules.specs.WeekGuard.{length-after_rest}
 use Rattle.us_rules.specs.Paths.{next_means, us_choice}
-
--- # Counts of split rests
-
-longer_kept : (berth : Bool) (r : OpenRun) → IsOpenRun r → IsOpenRun (longer berth r)
-longer_kept true r h = let a = h.ends in let b = h.inside in let c = h.bounded in record { ends = omega arith; inside = omega arith; bounded = omega arith }
-longer_kept false r h = let a = h.ends in let b = h.inside in let c = h.bounded in record { ends = omega arith; inside = omega arith; bounded = omega arith }
-
-rested_kept : (u : Used) → IsUsed u → IsUsed (rested u)
-rested_kept u h = record { works = h.works; bounded_duty = h.bounded_duty; bounded = omega arith }
-
-worked_kept : (drive : Bool) (u : Used) → IsUsed u → IsUsed (worked drive u)
-worked_kept true u h = let a = h.works in record { works = omega arith; bounded_duty = omega arith; bounded = omega arith }
-worked_kept false u h = let a = h.works in let b = h.bounded_duty in record { works = omega arith; bounded_duty = omega arith; bounded = omega arith }
-
-worked_within : (drive : Bool) (u v : Used) → IsWithin u v → IsWithin (worked drive u) (worked drive v)
-worked_within true u v h = let a = h.less_driving in let b = h.less_duty in let c = h.less_elapsed in record { less_driving = omega arith; less_duty = omega arith; less_elapsed = omega arith }
-worked_within false u v h = let a = h.less_driving in let b = h.less_duty in let c = h.less_elapsed in record { less_driving = a; less_duty = omega arith; less_elapsed = omega arith }
-
-rest_kept : (berth : Bool) (s : SplitCount) → IsSplitCount s → IsSplitCount (count_rest berth s)
-rest_kept berth s h = let b = h.behind in let l = h.later.less_elapsed in record {
-  is_run = longer_kept berth s.run h.is_run;
-  is_base = rested_kept s.base h.is_base;
-  is_last = rested_kept s.last h.is_last;
-  later = record { less_driving = h.later.less_driving; less_duty = h.later.less_duty; less_elapsed = omega arith };
-  behind = omega arith;
-  is_waiting = h.is_waiting;
-  alone = λ e. ap rested (h.alone e);
-}
-
-duty_kept : (drive : Bool) (s : SplitCount) → IsSplitCount s → IsSplitCount (after_duty drive s)
-duty_kept drive s h = record {
-  is_run = record { ends = omega arith; inside = omega arith; bounded = omega arith };
-  is_base = worked_kept drive s.base h.is_base;
-  is_last = worked_kept drive s.last h.is_last;
-  later = worked_within drive s.last s.base h.later;
-  behind = omega arith;
-  is_waiting = h.is_waiting;
-  alone = λ e. ap (worked drive) (h.alone e);
-}
-
-split_kept : (s : SplitCount) → IsSplitCount s → IsSplitCount (split_count s)
-split_kept s h =
-    let r = h.is_run in
-    let i = r.inside in
-    let l = h.is_last in
-    record {
-      is_run = record { ends = omega arith; inside = omega arith; bounded = omega arith };
-      is_base = record { works = l.works; bounded_duty = l.bounded_duty; bounded = let b = l.bounded in omega arith };
-      is_last = record { works = omega arith; bounded_duty = omega arith; bounded = omega arith };
-      later = record { less_driving = omega arith; less_duty = omega arith; less_elapsed = omega arith };
-      behind = omega arith;
-      is_waiting = (r.inside, r.bounded);
-      alone = λ e. absurd (let z : Some _ ≡ None = e in cc);
-    }
-
-full_kept : IsSplitCount rested_count
-full_kept = record {
-  is_run = record { ends = omega arith; inside = omega arith; bounded = omega arith };
-  is_base = record { works = omega arith; bounded_duty = omega arith; bounded = omega arith };
-  is_last = record { works = omega arith; bounded_duty = omega arith; bounded = omega arith };
-  later = record { less_driving = omega arith; less_duty = omega arith; less_elapsed = omega arith };
-  behind = omega arith;
-  is_waiting = tt;
-  alone = λ e. refl;
-}
-
-pub fresh_kept : IsSplitCount fresh_count
-fresh_kept = record {
-  is_run = record { ends = omega arith; inside = omega arith; bounded = omega arith };
-  is_base = record { works = omega arith; bounded_duty = omega arith; bounded = omega arith };
-  is_last = record { works = omega arith; bounded_duty = omega arith; bounded = omega arith };
-  later = record { less_driving = omega arith; less_duty = omega arith; less_elapsed = omega arith };
-  behind = omega arith;
-  is_waiting = tt;
-  alone = λ e. refl;
-}
-
-choice_kept : (berth : Bool) (s : SplitCount) (x : Activity) (c : Choice) → IsSplitCount s → IsChoice US berth us_fits s x c → IsSplitCount c.count
-choice_kept berth s x c h k = elim k [
-  | inl r ↦ subst (λ (d : Choice). IsSplitCount d.count) r.is (rest_kept (sleeps x) s h)
-  | inr l ↦ elim l [
-    | inl r ↦ subst (λ (d : Choice). IsSplitCount d.count) r.is (duty_kept (drives x) s h)
-    | inr m ↦ elim m [
-      | inl r ↦ subst (λ (d : Choice). IsSplitCount d.count) r.is (duty_kept (drives x) (split_count s) (split_kept s h))
-      | inr r ↦ subst (λ (d : Choice). IsSplitCount d.count) r.is (duty_kept (drives x) rested_count full_kept)
-    ]
-  ]
-]
 
 -- # Counts of breaks
 
@@ -155,7 +64,25 @@ day_holds day_start at sums h = let a = day_before day_start at sums h in omega 
 record IsWeekCount (days day_start : ℕ) (c : WeekCount) (at : ℕ) : Type 0 where
   rest : c.rest ≤ US_RESTART
   days_counted : length c.sums ≡ days
+  within : All (λ n. n ≤ DAY_MINUTES) c.sums
   day : today c.sums ≤ day_so_far day_start at
+
+within_turned : (turn : Bool) (sums : List ℕ) → All (λ n. n ≤ DAY_MINUTES) sums → All (λ n. n ≤ DAY_MINUTES) (turned turn sums)
+within_turned true sums h = All-take (λ n. n ≤ DAY_MINUTES) (length sums) (0 ∷ sums) (All-cons (λ n. n ≤ DAY_MINUTES) 0 sums (omega arith) h)
+within_turned false sums h = h
+
+within_cleared : (sums : List ℕ) → All (λ n. n ≤ DAY_MINUTES) (cleared sums)
+within_cleared sums = All-replicate (λ n. n ≤ DAY_MINUTES) (length sums) 0 (omega arith)
+
+within_added : (sums : List ℕ) → today sums + 1 ≤ DAY_MINUTES → All (λ n. n ≤ DAY_MINUTES) sums → All (λ n. n ≤ DAY_MINUTES) (added 1 sums)
+within_added [] l h = h
+within_added (x ∷ xs) l h = All-cons (λ n. n ≤ DAY_MINUTES) (x + 1) xs l (All-tail (λ n. n ≤ DAY_MINUTES) x xs h)
+
+within_rested : (run : ℕ) (sums : List ℕ) → All (λ n. n ≤ DAY_MINUTES) sums → All (λ n. n ≤ DAY_MINUTES) (after_rest US_RESTART run sums)
+within_rested run sums h = elim (cases_lt run US_RESTART) [
+  | inl l ↦ (let e : after_rest US_RESTART run sums ≡ sums = grind (arith, nat_tests) in subst (All (λ n. n ≤ DAY_MINUTES)) (sym e) h)
+  | inr l ↦ (let e : after_rest US_RESTART run sums ≡ cleared sums = grind (arith, nat_tests) in subst (All (λ n. n ≤ DAY_MINUTES)) (sym e) (within_cleared sums))
+]
 
 day_after : (day_start at : ℕ) → day_so_far day_start (at + 1) ≡ (at + (DAY_MINUTES - day_start)) % DAY_MINUTES + 1
 day_after day_start at = omega arith
@@ -170,6 +97,7 @@ rest_week_kept : (days day_start : ℕ) (c : WeekCount) (at : ℕ) → IsWeekCou
 rest_week_kept days day_start c at h = record {
   rest = omega arith;
   days_counted = length-after_rest (c.rest + 1) (turned (begins_day day_start at) c.sums) ∙ (length-turned (begins_day day_start at) c.sums ∙ h.days_counted);
+  within = within_rested (c.rest + 1) (turned (begins_day day_start at) c.sums) (within_turned (begins_day day_start at) c.sums h.within);
   day =
       let a = day_before day_start at c.sums h.day in
       let b = day_after day_start at in
@@ -180,6 +108,7 @@ duty_week_kept : (days day_start : ℕ) (c : WeekCount) (at : ℕ) → IsWeekCou
 duty_week_kept days day_start c at h = record {
   rest = omega arith;
   days_counted = length-added 1 (turned (begins_day day_start at) c.sums) ∙ (length-turned (begins_day day_start at) c.sums ∙ h.days_counted);
+  within = within_added (turned (begins_day day_start at) c.sums) (day_holds day_start at c.sums h.day) (within_turned (begins_day day_start at) c.sums h.within);
   day =
       let a = day_before day_start at c.sums h.day in
       let b = day_after day_start at in
@@ -199,27 +128,31 @@ week_kept days day_start c at Berth h = rest_week_kept days day_start c at h
 today-zeros : (days : ℕ) → today (replicate days 0) ≤ 0
 today-zeros days = subst (λ s. today s ≤ 0) (ap (λ n. replicate n 0) (length-replicate {A = ℕ} days 0)) (let z = today_cleared (replicate days 0) in omega arith)
 
-pub root_is_us_state : (days day_start first : ℕ) → IsUsState days day_start (root_state days) first
-root_is_us_state days day_start first = record {
-  split = fresh_kept;
+pub root_is_us_state : (berth : Bool) (days day_start first : ℕ) → IsUsState berth days day_start (root_state days) first
+root_is_us_state berth days day_start first = record {
+  split = fresh_kept US berth;
   still = omega arith;
   driven = omega arith;
   rest = omega arith;
   days_counted = length-replicate {A = ℕ} days 0;
+  within = All-replicate (λ n. n ≤ DAY_MINUTES) days 0 (omega arith);
   day = let z = today-zeros days in omega arith;
 }
 
-pub next_is_us_state : (berth : Bool) (days day_start : ℕ) (s : UsState) (at : ℕ) (x : Activity) (n : Next UsState) → IsUsState days day_start s at → IsOneOf (us_nexts berth days day_start s at x) n → IsUsState days day_start n.state (at + 1)
+pub next_is_us_state : (berth : Bool) (days day_start : ℕ) (s : UsState) (at : ℕ) (x : Activity) (n : Next UsState) → IsUsState berth days day_start s at → IsOneOf (us_nexts berth days day_start s at x) n → IsUsState berth days day_start n.state (at + 1)
 next_is_us_state berth days day_start s at x n h o =
     let k = next_means berth days day_start s at x n o in
     let b : IsBreakCount n.state.rest_break = subst (λ (m : Next UsState). IsBreakCount m.state.rest_break) k.is (break_kept s.rest_break at x k.unbroken (record { still = h.still; driven = h.driven })) in
-    let w : IsWeekCount days day_start n.state.week (at + 1) = subst (λ (m : Next UsState). IsWeekCount days day_start m.state.week (at + 1)) k.is (week_kept days day_start s.week at x (record { rest = h.rest; days_counted = h.days_counted; day = h.day })) in
-    let c : IsSplitCount n.state.split = subst (λ (m : Next UsState). IsSplitCount m.state.split) k.is (choice_kept berth s.split x k.by h.split (us_choice berth s.split x k.by k.chosen)) in
-    record { split = c; still = b.still; driven = b.driven; rest = w.rest; days_counted = w.days_counted; day = w.day }
+    let w : IsWeekCount days day_start n.state.week (at + 1) = subst (λ (m : Next UsState). IsWeekCount days day_start m.state.week (at + 1)) k.is (week_kept days day_start s.week at x (record { rest = h.rest; days_counted = h.days_counted; within = h.within; day = h.day })) in
+    let c : IsCountOf US berth n.state.split = subst (λ (m : Next UsState). IsCountOf US berth m.state.split) k.is (choice_kept US berth us_fits s.split x k.by h.split (us_choice berth s.split x k.by k.chosen)) in
+    record { split = c; still = b.still; driven = b.driven; rest = w.rest; days_counted = w.days_counted; within = w.within; day = w.day }
 
 -- the week has some days
 pub some_days : (days : ℕ) → (US_SHORT_WEEK ≤ days) × (days ≤ 8) → 0 < days
 some_days days h = let a = h.0 in omega arith
+
+pub few_days : (days : ℕ) → (US_SHORT_WEEK ≤ days) × (days ≤ 8) → days ≤ 8
+few_days days h = h.1
 
 -- and may be counted
 pub week_counted : (days : ℕ) → (US_SHORT_WEEK ≤ days) × (days ≤ 8) → IsDays days
@@ -230,7 +163,7 @@ first_in : (ns : List (Next UsState)) (t : UsState) → first_of ns ≡ Some t �
 first_in [] t e = absurd (let z : None ≡ Some t = e in cc)
 first_in (n ∷ ns) t e = (n, inl refl, let q : n.state ≡ t = cc in q)
 
-pub first_is_us_state : (berth : Bool) (days day_start : ℕ) (s t : UsState) (at : ℕ) (x : Activity) → IsUsState days day_start s at → first_of (us_nexts berth days day_start s at x) ≡ Some t → IsUsState days day_start t (at + 1)
+pub first_is_us_state : (berth : Bool) (days day_start : ℕ) (s t : UsState) (at : ℕ) (x : Activity) → IsUsState berth days day_start s at → first_of (us_nexts berth days day_start s at x) ≡ Some t → IsUsState berth days day_start t (at + 1)
 first_is_us_state berth days day_start s t at x h e =
     let q = first_in (us_nexts berth days day_start s at x) t e in
-    subst (λ u. IsUsState days day_start u (at + 1)) q.2 (next_is_us_state berth days day_start s at x q.0 h q.1)
+    subst (λ u. IsUsState berth days day_start u (at + 1)) q.2 (next_is_us_state berth days day_start s at x q.0 h q.1)

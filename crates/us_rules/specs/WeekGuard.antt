@@ -35,11 +35,11 @@ pub record TracksWeek (days day_start first : ℕ) (p : List Activity) (c : Week
   pub capped : c.rest ≡ min run US_RESTART
   pub counted : length c.sums ≡ days
 
-day_on : (day_start first j k : ℕ) → j ≤ k → us_day day_start first j ≤ us_day day_start first k
+pub day_on : (day_start first j k : ℕ) → j ≤ k → us_day day_start first j ≤ us_day day_start first k
 day_on day_start first j k l = omega arith
 
 -- where a day begins
-turn : (day_start first : ℕ) (p : List Activity) (at : ℕ) → 0 < length p → at + PADDING_MINUTES ≡ first + length p → IsTurn (us_day day_start first) p (begins_day day_start at)
+pub turn : (day_start first : ℕ) (p : List Activity) (at : ℕ) → 0 < length p → at + PADDING_MINUTES ≡ first + length p → IsTurn (us_day day_start first) p (begins_day day_start at)
 turn day_start first p at some e = elim (cases_eq ((at + (DAY_MINUTES - day_start)) % DAY_MINUTES) 0) [
   | inl q ↦ inl (grind (arith, nat_tests), omega arith)
   | inr q ↦ inr (grind (arith, nat_tests), omega arith)

@@ -1,5 +1,5 @@
 //! The rule book.
-ghost use Rattle.std.specs.Prelude.{◌≡◌, ◌⊎◌, ℕ, ◌+◌, ◌-◌, ◌<◌, ◌≤◌, Bool, true, cond, map, sum, nat_le, IfSome};
+ghost use Rattle.std.specs.Prelude.{◌≡◌, ◌⊎◌, ℕ, ◌+◌, ◌-◌, ◌<◌, ◌≤◌, Bool, true, cond, map, sum, length, nat_le, IfSome};
 ghost use Rattle.duty_core.specs.declared.params.Params.TheVariants.{UsProperty};
 ghost use Rattle.duty_core.specs.declared.limits.TheConstants.{DAY_MINUTES, US_RESTART, US_SHORT_WEEK, MINUTE_LIMIT};
 ghost use Rattle.duty_core.specs.Activity.{drives};
@@ -7,23 +7,27 @@ ghost use Rattle.duty_core.specs.UsRules.{us_week_limit};
 ghost use Rattle.day_sums.specs.Sums.{today};
 ghost use Rattle.day_sums.specs.Counted.{turned};
 ghost use Rattle.rule_core.specs.Reach.{listed};
-ghost use Rattle.us_rules.specs.Machine.{IsUsState, root_state, begins_day, week_after, week_ok, us_nexts, us_advances, first_of, goes_on, us_idles};
+ghost use Rattle.us_rules.specs.Machine.{IsUsState, root_state, begins_day, day_so_far, week_after, week_ok, us_nexts, us_advances, first_of, goes_on, week_covers, us_covers, us_ahead, us_idles};
+ghost use Rattle.us_rules.specs.Numbers.{us_numbers, us_state_of, holds_break_week};
 ghost use Rattle.us_rules.specs.Ends.{next_with, nexts_made, first_next, onward};
-ghost use Rattle.us_rules.specs.Covers.{same_used, same_run, same_waiting, same_split, same_break, same_week, covers_state, us_covers_itself, us_covers_on, us_simulation, us_idles_allowed, us_idles_cover};
-ghost use Rattle.us_rules.specs.States.{some_days, root_is_us_state, next_is_us_state};
+ghost use Rattle.us_rules.specs.Lasting.{us_covers_itself, us_covers_on, us_simulation, us_ahead_stays, us_ahead_rests, us_idles_allowed, us_idles_cover};
+ghost use Rattle.us_rules.specs.Better.{us_better_covers};
+ghost use Rattle.us_rules.specs.NumberLaws.{us_numbers_read, us_numbers_told, us_numbers_few};
+ghost use Rattle.us_rules.specs.States.{some_days, few_days, root_is_us_state, next_is_us_state};
 ghost use Rattle.us_rules.specs.Advance.{us_advances_reach, us_advances_all};
 ghost use Rattle.us_rules.specs.Exact.{us_exact};
 ghost use Rattle.us_rules.specs.Single.{us_refuses};
 
 use crate::ends::Ends;
+use crate::numbers::{COUNTS, item, split_by};
 use crate::state::{BreakCount, UsState, WeekCount};
 use day_sums::DaySums;
 use duty_core::{
-    Activity, DAY_MINUTES, Mark, Minute, NoMemory, Params, US_LONG_WEEK_LIMIT, US_RESTART,
-    US_SHORT_WEEK, US_SHORT_WEEK_LIMIT, is_rest,
+    Activity, DAY_MINUTES, Mark, Minute, NoMemory, Params, US_BREAK, US_LONG_WEEK_LIMIT,
+    US_RESTART, US_SHORT_WEEK, US_SHORT_WEEK_LIMIT, US_UNBROKEN_LIMIT, is_rest,
 };
-use rule_core::{Idles, Next, Nexts, RuleBook};
-use sleeper_split::{OpenRun, SplitCount, Used, WaitingRest};
+use rule_core::{Idles, Next, Nexts, Numbers, RuleBook};
+use sleeper_split::{SplitCount, SplitRule};
 
 /// The rule book of the United States, property-carrying (49 CFR 395.3 and 395.1(g)(1)): the window
 /// of fourteen hours, eleven hours of driving, a break after eight, sixty or seventy hours of duty
@@ -58,10 +62,10 @@ impl UsBook {
 
     /// Whether a day begins at this minute.
     fn begins_day(&self, at: Minute) -> bool
-        requires { at < MINUTE_LIMIT }
         ensures { result ≡ begins_day self.now.day_start at }
     {
-        (at + DAY_MINUTES.saturating_sub(u32::from(self.day_start))) % DAY_MINUTES == 0
+        (at % DAY_MINUTES + DAY_MINUTES.saturating_sub(u32::from(self.day_start))) % DAY_MINUTES
+            == 0
     }
 
     /// The counts of the week after the minute `at`.
@@ -71,10 +75,7 @@ impl UsBook {
         requires day { today (turned (begins_day self.now.day_start at) week.now.sums) + 1 ≤ DAY_MINUTES }
         ensures { result ≡ week_after self.now.day_start week.now at act }
     {
-        let mut sums = week.sums;
-        if self.begins_day(at) {
-            sums.roll_day();
-        }
+        let mut sums = self.days_at(week, at);
         if is_rest(act) {
             if week.rest + 1 >= US_RESTART {
                 sums.reset();
@@ -93,12 +94,7 @@ impl UsBook {
     fn week_allows(&self, after: &WeekCount, act: Activity) -> bool
         ensures { result ≡ cond (drives act) (nat_le (sum after.now.sums) (us_week_limit self.now.days)) true }
     {
-        let limit = if u32::from(self.days) == US_SHORT_WEEK {
-            US_SHORT_WEEK_LIMIT
-        } else {
-            US_LONG_WEEK_LIMIT
-        };
-        !matches!(act, Activity::Drive) || after.sums.total() <= limit
+        !matches!(act, Activity::Drive) || after.sums.total() <= self.week_limit()
     }
 }
 
@@ -136,7 +132,7 @@ const NONE: Nexts<UsState> = Nexts {
 impl UsBook {
     /// The successors by a minute of this activity.
     fn nexts(&self, state: &UsState, at: Minute, act: Activity) -> Nexts<UsState>
-        requires state { IsUsState self.now.days self.now.day_start state.now at }
+        requires state { IsUsState self.now.berth self.now.days self.now.day_start state.now at }
         requires range { at < MINUTE_LIMIT }
         ensures { listed result ≡ us_nexts self.now.berth self.now.days self.now.day_start state.now at act }
     {
@@ -158,7 +154,7 @@ impl UsBook {
 
     /// The first successor, without its mark.
     fn first_next(&self, state: &UsState, at: Minute, act: Activity) -> Option<UsState>
-        requires state { IsUsState self.now.days self.now.day_start state.now at }
+        requires state { IsUsState self.now.berth self.now.days self.now.day_start state.now at }
         requires range { at < MINUTE_LIMIT }
         ensures { result ≡ first_of (us_nexts self.now.berth self.now.days self.now.day_start state.now at act) }
     {
@@ -168,7 +164,7 @@ impl UsBook {
 
     /// Where `n` more minutes lead a state, each to its first successor.
     fn goes_on(&self, state: UsState, at: Minute, act: Activity, n: u32) -> Option<UsState>
-        requires state { IsUsState self.now.days self.now.day_start state at }
+        requires state { IsUsState self.now.berth self.now.days self.now.day_start state at }
         requires range { at + n ≤ MINUTE_LIMIT }
         ensures { result ≡ goes_on self.now.berth self.now.days self.now.day_start (Some state) at act n }
     {
@@ -187,7 +183,7 @@ impl UsBook {
         act: Activity,
         n: u32,
     ) -> Option<Next<UsState>>
-        requires state { IfSome next (λ t. IsUsState self.now.days self.now.day_start t.state at) }
+        requires state { IfSome next (λ t. IsUsState self.now.berth self.now.days self.now.day_start t.state at) }
         requires range { at + n ≤ MINUTE_LIMIT }
         ensures { result ≡ onward self.now.berth self.now.days self.now.day_start next at act n }
     {
@@ -211,60 +207,81 @@ fn first_state(
     }
 }
 
-/// Whether two states are equal.
-fn same_state(a: &UsState, b: &UsState) -> bool
-    ensures { result ≡ covers_state a.now b.now }
-{
-    same_split(a.split, b.split)
-        && (same_break(a.rest_break, b.rest_break) && same_week(&a.week, &b.week))
-}
-
-/// Whether two counts of split rests are equal.
-fn same_split(a: SplitCount, b: SplitCount) -> bool
-    ensures { result ≡ same_split a b }
-{
-    same_run(a.run(), b.run())
-        && (same_used(a.base(), b.base())
-            && (same_used(a.last(), b.last()) && same_waiting(a.waiting(), b.waiting())))
-}
-
-/// Whether two rest runs in progress are equal.
-fn same_run(a: OpenRun, b: OpenRun) -> bool
-    ensures { result ≡ same_run a b }
-{
-    a.long == b.long && (a.stretch == b.stretch && a.longest == b.longest)
-}
-
-/// Whether two counts from a place on are equal.
-fn same_used(a: Used, b: Used) -> bool
-    ensures { result ≡ same_used a b }
-{
-    a.driving == b.driving && (a.duty == b.duty && a.elapsed == b.elapsed)
-}
-
-/// Whether two split rests that wait are equal, or none waits.
-fn same_waiting(a: Option<WaitingRest>, b: Option<WaitingRest>) -> bool
-    ensures { result ≡ same_waiting a b }
-{
-    match (a, b) {
-        (None, None) => true,
-        (Some(a), Some(b)) => a.long == b.long && a.berth == b.berth,
-        _ => false,
+impl UsBook {
+    /// The duty of the days of a week, by the day of the minute `at`.
+    fn days_at(&self, week: &WeekCount, at: Minute) -> DaySums
+        ensures { result ≡ turned (begins_day self.now.day_start at) week.now.sums }
+    {
+        let mut sums = week.sums;
+        if self.begins_day(at) {
+            sums.roll_day();
+        }
+        sums
     }
-}
 
-/// Whether two counts of breaks are equal.
-fn same_break(a: BreakCount, b: BreakCount) -> bool
-    ensures { result ≡ same_break a b }
-{
-    a.still == b.still && a.driven == b.driven
-}
+    /// Whether the counts of one week may stand for those of another at the minute `at`.
+    fn week_covers(&self, a: &WeekCount, b: &WeekCount, at: Minute) -> bool
+        requires a { length a.now.sums ≡ self.now.days }
+        requires b { length b.now.sums ≡ self.now.days }
+        ensures { result ≡ week_covers self.now.days self.now.day_start at a.now b.now }
+    {
+        let ours = self.days_at(a, at);
+        let theirs = self.days_at(b, at);
+        b.rest <= a.rest && ours.leaves_no_less(&theirs, self.week_limit())
+    }
 
-/// Whether two counts of the week are equal.
-fn same_week(a: &WeekCount, b: &WeekCount) -> bool
-    ensures { result ≡ same_week a.now b.now }
-{
-    a.rest == b.rest && a.sums.sums() == b.sums.sums()
+    /// The greatest duty of a week at which a driver may drive.
+    fn week_limit(&self) -> u32
+        ensures { result ≡ us_week_limit self.now.days }
+    {
+        if u32::from(self.days) == US_SHORT_WEEK {
+            US_SHORT_WEEK_LIMIT
+        } else {
+            US_LONG_WEEK_LIMIT
+        }
+    }
+
+    /// The minutes of the day of the minute before `at`, up to `at`.
+    fn day_so_far(&self, at: Minute) -> u32
+        ensures { result ≡ day_so_far self.now.day_start at }
+    {
+        let start = DAY_MINUTES.saturating_sub(u32::from(self.day_start));
+        (at % DAY_MINUTES + start + (DAY_MINUTES - 1)) % DAY_MINUTES + 1
+    }
+
+    /// Whether these are counts of breaks and of the week at the minute `at`.
+    fn holds(&self, rest_break: BreakCount, week: &WeekCount, at: Minute) -> bool
+        ensures { result ≡ holds_break_week self.now.day_start rest_break week.now at }
+    {
+        rest_break.still <= US_BREAK
+            && rest_break.driven <= US_UNBROKEN_LIMIT
+            && week.rest <= US_RESTART
+            && week.sums.today() <= self.day_so_far(at)
+    }
+
+    /// The state that has these numbers at the minute `at`, if there is one.
+    fn state_of(&self, numbers: &[u32], at: Minute) -> Option<UsState>
+        ensures { result ≡ us_state_of self.now.berth self.now.days self.now.day_start numbers.now at }
+    {
+        if numbers.len() != COUNTS + usize::from(self.days) {
+            return None;
+        }
+        let split = split_by(numbers, self.berth)?;
+        let sums = DaySums::of_sums(&numbers[COUNTS..])?;
+        let rest_break = BreakCount {
+            still: item(numbers, 11),
+            driven: item(numbers, 12),
+        };
+        let week = WeekCount {
+            rest: item(numbers, 13),
+            sums,
+        };
+        self.holds(rest_break, &week, at).then_some(UsState {
+            split,
+            rest_break,
+            week,
+        })
+    }
 }
 
 impl RuleBook for UsBook {
@@ -276,7 +293,7 @@ impl RuleBook for UsBook {
 
     ghost params_of = { λ book. UsProperty book.berth book.days book.day_start };
 
-    ghost is_state_at = { λ book s at. IsUsState book.days book.day_start s at };
+    ghost is_state_at = { λ book s at. IsUsState book.berth book.days book.day_start s at };
 
     ghost root_of = { λ book first. root_state book.days };
 
@@ -284,9 +301,15 @@ impl RuleBook for UsBook {
 
     ghost advances_of = { λ book s at x n. us_advances book.berth book.days book.day_start s at x n };
 
-    ghost covering = { λ book a b at. covers_state a b };
+    ghost covering = { λ book a b at. us_covers book.berth book.days book.day_start a b at };
 
-    ghost idles_of = { λ book s. us_idles book.berth };
+    ghost idles_of = { λ book s. us_idles book.berth s };
+
+    ghost ahead_of = { λ book s. us_ahead book.berth s };
+
+    ghost numbers_of = { λ book s at. us_numbers s };
+
+    ghost state_of = { λ book ns at. us_state_of book.berth book.days book.day_start ns at };
 
     fn params(&self) -> Params {
         Params::UsProperty {
@@ -338,11 +361,13 @@ impl RuleBook for UsBook {
         })
     }
 
-    fn covers(&self, a: &UsState, b: &UsState, _at: Minute) -> bool {
-        same_state(a, b)
+    fn covers(&self, a: &UsState, b: &UsState, at: Minute) -> bool {
+        a.split.covers(b.split, SplitRule::US, self.berth)
+            && a.rest_break.covers(b.rest_break)
+            && self.week_covers(&a.week, &b.week, at)
     }
 
-    fn idles(&self, _state: &UsState) -> Idles {
+    fn idles(&self, state: &UsState) -> Idles {
         let rest = if self.berth {
             Activity::Berth
         } else {
@@ -350,11 +375,29 @@ impl RuleBook for UsBook {
         };
         Idles {
             first: rest,
-            second: Some(Activity::Wait),
+            second: (!self.ahead(state)).then_some(Activity::Wait),
         }
     }
 
-    ghost root_is_state = { λ book first begins. root_is_us_state book.days book.day_start first };
+    fn ahead(&self, state: &UsState) -> bool {
+        state.split.is_ahead(SplitRule::US, self.berth)
+    }
+
+    fn write_state(&self, state: &UsState, _at: Minute, out: &mut Numbers) -> Result<(), NoMemory> {
+        let before = out.items().len();
+        out.extend(&state.counts())?;
+        if let Err(fault) = out.extend(state.week.sums.sums()) {
+            out.truncate(before);
+            return Err(fault);
+        }
+        Ok(())
+    }
+
+    fn read_state(&self, numbers: &[u32], at: Minute) -> Result<Option<UsState>, NoMemory> {
+        Ok(self.state_of(numbers, at))
+    }
+
+    ghost root_is_state = { λ book first begins. root_is_us_state book.berth book.days book.day_start first };
 
     ghost next_is_state = { λ book s at x n. next_is_us_state book.berth book.days book.day_start s at x n };
 
@@ -366,13 +409,25 @@ impl RuleBook for UsBook {
 
     ghost advances_all = { λ book s at x n marks u i. us_advances_all book.berth book.days book.day_start n s at x marks u };
 
-    ghost covers_itself = { λ book s at i. us_covers_itself s };
+    ghost covers_itself = { λ book s at i. us_covers_itself book.berth book.days book.day_start s at };
 
-    ghost covers_on = { λ book a b c at i j k. us_covers_on a b c };
+    ghost covers_on = { λ book a b c at i j k. us_covers_on book.berth book.days book.day_start a b c at i };
 
-    ghost simulation = { λ book a b at x n i j h allowed. us_simulation book.berth book.days book.day_start a b at x n h };
+    ghost simulation = { λ book a b at x n i j. us_simulation book.berth book.days book.day_start a b at x n (some_days book.days book.week) i j };
 
-    ghost idles_allowed = { λ book s at y i. us_idles_allowed book.berth book.days book.day_start y };
+    ghost idles_allowed = { λ book s at y i. us_idles_allowed book.berth book.days book.day_start s y };
 
-    ghost idles_cover = { λ book s at x n t i some long idle allowed o. us_idles_cover book.berth book.days book.day_start s at x n t idle allowed o };
+    ghost idles_cover = { λ book s at x n t i some long. us_idles_cover book.berth book.days book.day_start s at x n t (some_days book.days book.week) i };
+
+    ghost better_covers = { λ book first h k marks others a b. us_better_covers book.berth book.days book.day_start first h k marks others a b (some_days book.days book.week) };
+
+    ghost ahead_stays = { λ book a at. us_ahead_stays book.berth book.days book.day_start a at };
+
+    ghost ahead_rests = { λ book a at x n. us_ahead_rests book.berth book.days book.day_start a at x n (some_days book.days book.week) };
+
+    ghost numbers_read = { λ book s at. us_numbers_read book.berth book.days book.day_start s at };
+
+    ghost numbers_told = { λ book ns s at. us_numbers_told book.berth book.days book.day_start ns s at };
+
+    ghost numbers_few = { λ book s at. us_numbers_few book.berth book.days book.day_start s at (few_days book.days book.week) };
 }

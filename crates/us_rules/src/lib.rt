@@ -3,6 +3,7 @@
 
 mod book;
 mod ends;
+mod numbers;
 mod state;
 #[cfg(test)]
 mod tests;

@@ -3,7 +3,7 @@ ghost use Rattle.std.specs.Prelude.{◌≡◌, ◌+◌, ◌<◌, ◌≤◌};
 ghost use Rattle.day_sums.specs.Sums.{today};
 ghost use Rattle.duty_core.specs.declared.limits.TheConstants.{DAY_MINUTES, US_BREAK, US_UNBROKEN_LIMIT, US_RESTART};
 ghost use Rattle.day_sums.specs.Counted.{turned};
-ghost use Rattle.us_rules.specs.Machine.{break_ok, break_after, week_after};
+ghost use Rattle.us_rules.specs.Machine.{break_ok, break_after, week_after, break_covers};
 
 use day_sums::DaySums;
 use duty_core::{Activity, US_BREAK, US_RESTART, US_UNBROKEN_LIMIT, is_rest};
@@ -71,5 +71,13 @@ impl BreakCount {
         } else {
             BreakCount::FRESH
         }
+    }
+
+    /// Whether these counts may stand for `other`: the time without driving is as long, and the
+    /// driving since the break no more.
+    pub(crate) fn covers(self, other: BreakCount) -> bool
+        ensures { result ≡ break_covers self other }
+    {
+        other.still <= self.still && self.driven <= other.driven
     }
 }

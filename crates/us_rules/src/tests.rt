@@ -1,11 +1,12 @@
 //! The book's calls, at days of driving and rest, and logs of such days.
 ghost use Rattle.std.specs.Prelude.{◌+◌, ◌*◌, ◌<◌, ◌≤◌, IfOk, IfSome};
 ghost use Rattle.duty_core.specs.Params.{unit_minutes};
+ghost use Rattle.us_rules.specs.Machine.{IsUsState};
 
 use crate::book::UsBook;
 use crate::state::{BreakCount, UsState};
 use duty_core::{Activity, LONGEST_HISTORY, MINUTE_LIMIT, Mark, Minute, NoMemory, Params};
-use rule_core::{Idles, Nexts, Replayed, Roots, RuleBook, replay};
+use rule_core::{Idles, Nexts, Numbers, Replayed, Roots, RuleBook, replay};
 use std::alloc::Global;
 use std::test::Fail;
 use timeline::Timeline;
@@ -30,6 +31,25 @@ fn moved<B: RuleBook>(
     }
     match c {
         Some(full) => Ok(Some(full.state)),
+        None => Ok(None),
+    }
+}
+
+/// The state after a unit that declares the rest run before it as a split rest, or `None` where it
+/// may not be one.
+fn declared<B: RuleBook>(
+    book: &B,
+    state: &B::State,
+    at: Minute,
+    act: Activity,
+) -> Result<Option<B::State>, NoMemory>
+    requires state { B.is_state_at book.now state.now at }
+    requires range { at + unit_minutes (B.params_of book.now) < MINUTE_LIMIT }
+    ensures { IfOk result (λ o. IfSome o (λ s. B.is_state_at book.now s (at + unit_minutes (B.params_of book.now)))) }
+{
+    let Nexts { a: _, b, c: _ } = book.step(state, at, act)?;
+    match b {
+        Some(next) => Ok(Some(next.state)),
         None => Ok(None),
     }
 }
@@ -80,12 +100,108 @@ fn answers_each_call(rt: HostRuntime) -> Result<(), Fail> {
     assert!(rt; book.covers(&root, &copy, 0));
     let driving = moved(&book, &root, 0, Activity::Drive, 1)?.ok_or("refused")?;
     let resting = moved(&book, &root, 0, Activity::Berth, 1)?.ok_or("refused")?;
-    assert!(rt; !book.covers(&resting, &driving, 1));
+    assert!(rt; book.covers(&resting, &driving, 1));
+    assert!(rt; !book.covers(&driving, &resting, 1));
     let idles = Idles {
+        first: Activity::Berth,
+        second: None,
+    };
+    assert!(rt; book.ahead(&root));
+    assert_eq!(rt; book.idles(&root), idles);
+    Ok(())
+}
+
+#[test]
+fn waits_where_a_split_rest_owes_its_pair(rt: HostRuntime) -> Result<(), Fail> {
+    let book = UsBook::new(true, 8, 0);
+    let root = book.root(0)?;
+    let tired = moved(&book, &root, 0, Activity::Drive, 300)?.ok_or("refused")?;
+    let rested = moved(&book, &tired, 300, Activity::Berth, 300)?.ok_or("refused")?;
+    let split = declared(&book, &rested, 600, Activity::Wait)?.ok_or("refused")?;
+    let plain = moved(&book, &rested, 600, Activity::Wait, 1)?.ok_or("refused")?;
+    // Less is used since the base, but the next rest owes its pair.
+    assert!(rt; !book.covers(&split, &plain, 601));
+    assert!(rt; !book.covers(&plain, &split, 601));
+    let off = moved(&book, &split, 601, Activity::Off, 10)?.ok_or("refused")?;
+    assert!(rt; !book.ahead(&off));
+    let both = Idles {
         first: Activity::Berth,
         second: Some(Activity::Wait),
     };
-    assert_eq!(rt; book.idles(&root), idles);
+    assert_eq!(rt; book.idles(&off), both);
+    let asleep = moved(&book, &split, 601, Activity::Berth, 10)?.ok_or("refused")?;
+    assert!(rt; book.ahead(&asleep));
+    assert!(rt; book.covers(&asleep, &off, 611));
+    Ok(())
+}
+
+/// A Monday at six in the morning.
+const FIRST: Minute = 13_762_440;
+
+/// The state of an hour of rest and an hour of driving from then on.
+fn rested_and_drove(book: &UsBook) -> Result<UsState, Fail>
+    ensures { IfOk result (λ s. IsUsState book.now.berth book.now.days book.now.day_start s (FIRST + 120)) }
+{
+    let root = book.root(FIRST)?;
+    let rested = moved(book, &root, FIRST, Activity::Off, 60)?.ok_or("refused")?;
+    Ok(moved(book, &rested, FIRST + 60, Activity::Drive, 60)?.ok_or("refused")?)
+}
+
+#[test]
+fn covers_where_less_is_driven(rt: HostRuntime) -> Result<(), Fail> {
+    let book = UsBook::new(false, 8, 0);
+    let a = rested_and_drove(&book)?;
+    let root = book.root(FIRST)?;
+    let b = moved(&book, &root, FIRST, Activity::Drive, 120)?.ok_or("refused")?;
+    assert!(rt; book.covers(&a, &b, FIRST + 120));
+    assert!(rt; !book.covers(&b, &a, FIRST + 120));
+    assert!(rt; book.ahead(&a));
+    let off_alone = Idles {
+        first: Activity::Off,
+        second: None,
+    };
+    assert_eq!(rt; book.idles(&a), off_alone);
+    Ok(())
+}
+
+/// The numbers of that state: an hour of driving since the rest, without a break and in this day.
+const NUMBERS: [u32; 22] = [
+    0, 0, 0, 60, 60, 60, 60, 60, 60, 0, 0, 0, 60, 0, 60, 0, 0, 0, 0, 0, 0, 0,
+];
+
+#[test]
+fn writes_and_reads_a_state(rt: HostRuntime) -> Result<(), Fail> {
+    let book = UsBook::new(false, 8, 0);
+    let a = rested_and_drove(&book)?;
+    let mut out = Numbers::new(rt.alloc());
+    book.write_state(&a, FIRST + 120, &mut out)?;
+    assert_eq!(rt; out.items(), NUMBERS.as_slice());
+    let read = book
+        .read_state(out.items(), FIRST + 120)?
+        .ok_or("no state")?;
+    assert_eq!(rt; read.split, a.split);
+    assert_eq!(rt; read.rest_break, a.rest_break);
+    assert_eq!(rt; read.week.rest, a.week.rest);
+    assert_eq!(rt; read.week.sums.sums(), a.week.sums.sums());
+    Ok(())
+}
+
+#[test]
+fn reads_no_other_numbers(rt: HostRuntime) -> Result<(), Fail> {
+    let book = UsBook::new(false, 8, 0);
+    assert!(rt; book.read_state(&[], FIRST)?.is_none());
+    assert!(rt; book.read_state(&NUMBERS[1..], FIRST + 120)?.is_none());
+    // At midnight no minute of the day has passed that could hold duty.
+    assert!(rt; book.read_state(&NUMBERS, 1440 * 9557 + 61)?.is_some());
+    assert!(rt; book.read_state(&NUMBERS, 1440 * 9557 + 59)?.is_none());
+    let mut numbers = NUMBERS;
+    numbers[12] = 481;
+    assert!(rt; book.read_state(&numbers, FIRST + 120)?.is_none());
+    numbers[12] = 480;
+    assert!(rt; book.read_state(&numbers, FIRST + 120)?.is_some());
+    // No split rest waits where there is no berth.
+    numbers[9] = 120;
+    assert!(rt; book.read_state(&numbers, FIRST + 120)?.is_none());
     Ok(())
 }
 

@@ -11,7 +11,7 @@ loop-k-preserved c =
     let taken : first_of (us_nexts book.berth book.days book.day_start c.loop-k.state at c.args.act) ≡ Some c.in_ok-state.state = sym c.first_next.ensures ∙ c.in_ok-state.was in
     let next : at + 1 ≡ c.args.at + (c.loop-k.k + 1) = omega arith in
     record {
-      state = subst (IsUsState book.days book.day_start c.in_ok-state.state) next
+      state = subst (IsUsState book.berth book.days book.day_start c.in_ok-state.state) next
           (first_is_us_state book.berth book.days book.day_start c.loop-k.state c.in_ok-state.state at c.args.act c.loop-k.invariant.state taken);
       reached = λ j e.
           c.loop-k.invariant.reached (suc j) (omega arith)

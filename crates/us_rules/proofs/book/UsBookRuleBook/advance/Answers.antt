@@ -11,19 +11,19 @@ use Rattle.us_rules.proofs.book.UsBookRuleBook.advance.Goals as goal
 pub onward-requires-clause-state : goal.onward-requires-clause-state
 onward-requires-clause-state c =
     let book = c.args.self.now in
-    (is_listed (λ t. IsUsState book.days book.day_start t.state (c.args.at + 1)) c.nexts-a.result (λ t o.
+    (is_listed (λ t. IsUsState book.berth book.days book.day_start t.state (c.args.at + 1)) c.nexts-a.result (λ t o.
     next_is_us_state book.berth book.days book.day_start c.args.state.now c.args.at c.args.act t c.requires.state (subst (λ ns. IsOneOf ns t) c.nexts-a.ensures o))).0
 
 pub onward-requires-2-clause-state : goal.onward-requires-2-clause-state
 onward-requires-2-clause-state c =
     let book = c.args.self.now in
-    (is_listed (λ t. IsUsState book.days book.day_start t.state (c.args.at + 1)) c.nexts-a.result (λ t o.
+    (is_listed (λ t. IsUsState book.berth book.days book.day_start t.state (c.args.at + 1)) c.nexts-a.result (λ t o.
     next_is_us_state book.berth book.days book.day_start c.args.state.now c.args.at c.args.act t c.requires.state (subst (λ ns. IsOneOf ns t) c.nexts-a.ensures o))).1
 
 pub onward-requires-3-clause-state : goal.onward-requires-3-clause-state
 onward-requires-3-clause-state c =
     let book = c.args.self.now in
-    (is_listed (λ t. IsUsState book.days book.day_start t.state (c.args.at + 1)) c.nexts-a.result (λ t o.
+    (is_listed (λ t. IsUsState book.berth book.days book.day_start t.state (c.args.at + 1)) c.nexts-a.result (λ t o.
     next_is_us_state book.berth book.days book.day_start c.args.state.now c.args.at c.args.act t c.requires.state (subst (λ ns. IsOneOf ns t) c.nexts-a.ensures o))).2
 
 -- the first unit, and the later ones
