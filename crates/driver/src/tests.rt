@@ -320,46 +320,6 @@ fn judges_logs(rt: HostRuntime) -> Result<(), Fail> {
 }
 
 #[test]
-fn plans_tours(rt: HostRuntime) -> Result<(), Fail> {
-    let alloc = rt.alloc();
-    let monday = "2026-03-02T06:00";
-    let cases = [
-        (
-            stop(alloc, 240, 60, monday, "2026-03-02T11:00")?,
-            Status::Done,
-            "shortest 5:00 from ",
-        ),
-        (
-            stop(alloc, 240, 30, monday, "2026-03-02T09:30")?,
-            Status::Infeasible,
-            "infeasible\n",
-        ),
-        (
-            stop(alloc, 31, 1, "2026-03-02T09:10", "2026-03-02T10:00")?,
-            Status::Done,
-            "shortest 1:30 from ",
-        ),
-        (
-            stop(alloc, 690, 30, monday, "2026-03-03T03:30")?,
-            Status::Done,
-            "shortest 22:00 from ",
-        ),
-        (
-            stop(alloc, 0, 30, "2026-03-02T06:10", "2026-03-02T06:20")?,
-            Status::Infeasible,
-            "infeasible\n",
-        ),
-    ];
-    for (stops, status, text) in cases {
-        let tour = tour_of(alloc, stops.as_str())?;
-        let (ended, sent) = answer(alloc, Given::new(&PLAN, tour.as_str(), RESTED))?;
-        assert_eq!(rt; ended, status, "where {text} is sent");
-        assert!(rt; sent.as_slice().starts_with(text.as_bytes()));
-    }
-    Ok(())
-}
-
-#[test]
 fn plans_behind_a_log(rt: HostRuntime) -> Result<(), Fail> {
     let alloc = rt.alloc();
     // Eleven hours at the wheel up to the start: ten hours of rest have to come first.
