@@ -4,6 +4,8 @@
 
 #[cfg(test)]
 mod tests;
+#[cfg(test)]
+mod worked_tours;
 
 use driver_cli::{Status, drive_tool};
 use duty_core::NoMemory;
