@@ -48,7 +48,13 @@ fn tour_with(alloc: Global, berth: bool, stops: &str) -> Result<String, NoMemory
 }
 
 /// The form of stop A.
-pub(crate) fn stop(alloc: Global, drive: u32, service: u32, from: &str, to: &str) -> Result<String, NoMemory> {
+pub(crate) fn stop(
+    alloc: Global,
+    drive: u32,
+    service: u32,
+    from: &str,
+    to: &str,
+) -> Result<String, NoMemory> {
     Ok(format!(in alloc;
         r#"{{"name":"A","drive":{drive},"service":{service},"windows":[["{from}","{to}"]]}}"#
     )?)

@@ -7,6 +7,7 @@ use std::process::Abort;
 use std::test::Fail;
 
 /// A tour of the United States: its grid, its start, whether there is a berth, and its stops.
+#[derive(Clone, Copy)]
 struct Form<'a> {
     grid: u32,
     start: &'a str,
@@ -93,20 +94,52 @@ const THURSDAY: &str = "2026-03-05T06:00";
 fn drives_within_a_shift_and_its_break(rt: HostRuntime) -> Result<(), Fail> {
     let alloc = rt.alloc();
     let plain = stop(alloc, 240, 60, MONDAY, THURSDAY)?;
-    takes(&rt, alloc, &Form::monday(plain.as_str()), RESTED, "5:00", MONDAY, THURSDAY)?;
+    takes(
+        &rt,
+        alloc,
+        &Form::monday(plain.as_str()),
+        RESTED,
+        "5:00",
+        MONDAY,
+        THURSDAY,
+    )?;
     let eleven = stop(alloc, 660, 30, MONDAY, THURSDAY)?;
-    takes(&rt, alloc, &Form::monday(eleven.as_str()), RESTED, "12:00", MONDAY, THURSDAY)?;
+    takes(
+        &rt,
+        alloc,
+        &Form::monday(eleven.as_str()),
+        RESTED,
+        "12:00",
+        MONDAY,
+        THURSDAY,
+    )?;
     let eight = stop(alloc, 480, 30, MONDAY, THURSDAY)?;
     let three = named(alloc, "B", (180, 30), MONDAY, THURSDAY)?;
     let served = format!(in alloc; "{eight},{three}")?;
-    takes(&rt, alloc, &Form::monday(served.as_str()), RESTED, "12:00", MONDAY, THURSDAY)
+    takes(
+        &rt,
+        alloc,
+        &Form::monday(served.as_str()),
+        RESTED,
+        "12:00",
+        MONDAY,
+        THURSDAY,
+    )
 }
 
 #[test]
 fn rests_overnight_where_it_must(rt: HostRuntime) -> Result<(), Fail> {
     let alloc = rt.alloc();
     let long = stop(alloc, 690, 30, MONDAY, THURSDAY)?;
-    takes(&rt, alloc, &Form::monday(long.as_str()), RESTED, "22:00", MONDAY, THURSDAY)?;
+    takes(
+        &rt,
+        alloc,
+        &Form::monday(long.as_str()),
+        RESTED,
+        "22:00",
+        MONDAY,
+        THURSDAY,
+    )?;
     let early = stop(alloc, 690, 30, MONDAY, "2026-03-03T00:00")?;
     has_none(&rt, alloc, &Form::monday(early.as_str()), RESTED)
 }
@@ -115,7 +148,13 @@ fn rests_overnight_where_it_must(rt: HostRuntime) -> Result<(), Fail> {
 fn splits_its_rest_in_the_berth(rt: HostRuntime) -> Result<(), Fail> {
     let alloc = rt.alloc();
     let first = stop(alloc, 0, 30, MONDAY, MONDAY)?;
-    let second = named(alloc, "B", (300, 30), "2026-03-02T15:00", "2026-03-02T15:00")?;
+    let second = named(
+        alloc,
+        "B",
+        (300, 30),
+        "2026-03-02T15:00",
+        "2026-03-02T15:00",
+    )?;
     let third = named(alloc, "C", (390, 30), MONDAY, THURSDAY)?;
     let stops = format!(in alloc; "{first},{second},{third}")?;
     let lone = Form::monday(stops.as_str());
@@ -154,7 +193,15 @@ fn waits_until_a_day_leaves_the_week(rt: HostRuntime) -> Result<(), Fail> {
         start,
         ..Form::monday(wide.as_str())
     };
-    takes(&rt, alloc, &form, FULL_WEEK, "2:30", "2026-03-10T00:00", "2026-03-11T06:00")?;
+    takes(
+        &rt,
+        alloc,
+        &form,
+        FULL_WEEK,
+        "2:30",
+        "2026-03-10T00:00",
+        "2026-03-11T06:00",
+    )?;
     let early = stop(alloc, 120, 30, start, "2026-03-09T20:00")?;
     let form = Form {
         start,
@@ -187,7 +234,15 @@ fn begins_the_week_anew_after_a_restart(rt: HostRuntime) -> Result<(), Fail> {
         start,
         ..Form::monday(late.as_str())
     };
-    takes(&rt, alloc, &form, FIVE_LONG_DAYS, "2:30", restarted, restarted)?;
+    takes(
+        &rt,
+        alloc,
+        &form,
+        FIVE_LONG_DAYS,
+        "2:30",
+        restarted,
+        restarted,
+    )?;
     let early = stop(alloc, 120, 30, start, "2026-03-09T07:30")?;
     let form = Form {
         start,
@@ -214,30 +269,72 @@ const WORKING_WEEK: &str = "from,to,status
 fn plans_two_days_of_four_stops(rt: HostRuntime) -> Result<(), Fail> {
     let alloc = rt.alloc();
     let first = stop(alloc, 90, 45, "2026-03-02T07:30", "2026-03-02T08:00")?;
-    let second = named(alloc, "B", (135, 30), "2026-03-02T10:00", "2026-03-02T11:00")?;
-    let third = named(alloc, "C", (210, 60), "2026-03-02T14:00", "2026-03-02T15:30")?;
-    let fourth = named(alloc, "D", (330, 45), "2026-03-03T06:00", "2026-03-03T08:00")?;
+    let second = named(
+        alloc,
+        "B",
+        (135, 30),
+        "2026-03-02T10:00",
+        "2026-03-02T11:00",
+    )?;
+    let third = named(
+        alloc,
+        "C",
+        (210, 60),
+        "2026-03-02T14:00",
+        "2026-03-02T15:30",
+    )?;
+    let fourth = named(
+        alloc,
+        "D",
+        (330, 45),
+        "2026-03-03T06:00",
+        "2026-03-03T08:00",
+    )?;
     let stops = format!(in alloc; "{first},{second},{third},{fourth}")?;
     let form = Form {
         grid: 15,
         berth: true,
         ..Form::monday(stops.as_str())
     };
-    takes(&rt, alloc, &form, WORKING_WEEK, "25:45", MONDAY, "2026-03-02T06:30")
+    takes(
+        &rt,
+        alloc,
+        &form,
+        WORKING_WEEK,
+        "25:45",
+        MONDAY,
+        "2026-03-02T06:30",
+    )
 }
 
 #[test]
 fn plans_up_to_the_last_minute_of_the_horizon(rt: HostRuntime) -> Result<(), Fail> {
     let alloc = rt.alloc();
     let far = stop(alloc, 240, 30, MONDAY, "2026-03-16T05:30")?;
-    takes(&rt, alloc, &Form::monday(far.as_str()), RESTED, "4:30", MONDAY, "2026-03-16T05:30")
+    takes(
+        &rt,
+        alloc,
+        &Form::monday(far.as_str()),
+        RESTED,
+        "4:30",
+        MONDAY,
+        "2026-03-16T05:30",
+    )
 }
 
 #[test]
 fn rounds_times_to_its_grid(rt: HostRuntime) -> Result<(), Fail> {
     let alloc = rt.alloc();
     let rounded = stop(alloc, 31, 1, "2026-03-02T09:10", THURSDAY)?;
-    takes(&rt, alloc, &Form::monday(rounded.as_str()), RESTED, "1:30", "2026-03-02T08:30", THURSDAY)?;
+    takes(
+        &rt,
+        alloc,
+        &Form::monday(rounded.as_str()),
+        RESTED,
+        "1:30",
+        "2026-03-02T08:30",
+        THURSDAY,
+    )?;
     let empty = stop(alloc, 0, 30, "2026-03-02T06:10", "2026-03-02T06:20")?;
     has_none(&rt, alloc, &Form::monday(empty.as_str()), RESTED)
 }
