@@ -1,0 +1,39 @@
+//! Days of ten hours, and what is left of a limit.
+use crate::sums::DaySums;
+use std::test::Fail;
+
+#[test]
+fn eight_days_of_ten_hours(rt: HostRuntime) -> Result<(), Fail> {
+    let sums = DaySums::of_sums(&[600; 8]).ok_or("no sums")?;
+    assert_eq!(rt; sums.days(), 8);
+    assert_eq!(rt; sums.total(), 4800);
+    assert_eq!(rt; sums.left_after(4200, 0), 0);
+    assert_eq!(rt; sums.left_after(4200, 1), 0);
+    assert_eq!(rt; sums.left_after(4200, 2), 600);
+    Ok(())
+}
+
+#[test]
+fn a_day_falls_out(rt: HostRuntime) -> Result<(), Fail> {
+    let mut sums = DaySums::new(7);
+    sums.add(500);
+    sums.roll_day();
+    sums.add(40);
+    let expected = [40, 500, 0, 0, 0, 0, 0];
+    assert_eq!(rt; sums.sums(), expected.as_slice());
+    for _ in 0..6 {
+        sums.roll_day();
+    }
+    assert_eq!(rt; sums.total(), 40);
+    sums.reset();
+    assert_eq!(rt; sums.total(), 0);
+    assert_eq!(rt; sums.days(), 7);
+    Ok(())
+}
+
+#[test]
+fn only_such_numbers_are_sums(rt: HostRuntime) {
+    assert!(rt; DaySums::of_sums(&[1440; 14]).is_some());
+    assert!(rt; DaySums::of_sums(&[1441; 14]).is_none());
+    assert!(rt; DaySums::of_sums(&[0; 9]).is_none());
+}
