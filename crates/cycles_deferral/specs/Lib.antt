@@ -1,1 +1,2 @@
 pub mod DayMachine
+pub mod CycleMachine

@@ -68,12 +68,7 @@ impl CanadaDays {
     ///
     /// This is so of calls that take the successive minutes of one history. A day ends 1,440 minutes
     /// after its first one.
-    pub fn unit(
-        self,
-        act: Activity,
-        new_day: bool,
-        day: Day,
-    ) -> Option<(CanadaDays, Option<Mark>)>
+    pub fn unit(self, act: Activity, new_day: bool, day: Day) -> Option<(CanadaDays, Option<Mark>)>
         requires good { IsCanadaDays self }
         requires day { negsuc 0 ≤ℤ day }
         ensures days { result ≡ days_after self act new_day day }

@@ -2,6 +2,8 @@
 //! cycles with the day off in a fortnight (sections 24 to 28).
 #![tactic(auto)]
 
+mod cycle;
 mod days;
 
+pub use cycle::CycleCount;
 pub use days::{CanadaDays, DayCount};
