@@ -1,10 +1,10 @@
 -- The counts of a cycle, minute by minute: its days' duty, the day off in a fortnight, and duty without a day off.
-use Rattle.std.specs.Prelude.{◌≡◌, ℕ, ◌+◌, ◌-◌, ◌<◌, ◌≤◌, ◌⊎◌, min, Bool, true, cond, List, length, replicate, sum, Option, None, Some, nat_eq, nat_lt, nat_le, ◌&&◌}
+use Rattle.std.specs.Prelude.{◌≡◌, ℕ, ◌+◌, ◌≤◌, ◌⊎◌, min, Bool, true, cond, List, length, replicate, sum, Option, None, Some, nat_eq, nat_lt, nat_le, ◌&&◌}
 use Rattle.duty_core.specs.declared.activity.Activity.{Activity}
-use Rattle.duty_core.specs.declared.limits.TheConstants.{DAY_MINUTES, CA_CYCLE_2, CA_DAY_OFF, CA_DAY_OFF_WITHIN, CA_WITHOUT_DAY_OFF_LIMIT}
+use Rattle.duty_core.specs.declared.limits.TheConstants.{DAY_MINUTES, CA_CYCLE_2, CA_DAY_OFF, CA_WITHOUT_DAY_OFF_LIMIT}
 use Rattle.duty_core.specs.Activity.{rests, works, drives}
 use Rattle.duty_core.specs.CaCycle.{cycle_days, cycle_reset, cycle_limit}
-use Rattle.day_sums.specs.Sums.{added, today, AreSums}
+use Rattle.day_sums.specs.Sums.{added, today}
 use Rattle.day_sums.specs.Counted.{turned, after_rest}
 use Rattle.cycles_deferral.specs.declared.cycle.TheConstants.{SINCE_LIMIT, WITHOUT_LIMIT}
 use Rattle.cycles_deferral.specs.declared.cycle.CycleCount.{CycleCount}

@@ -1,2 +1,3 @@
 pub mod DayMachine
 pub mod CycleMachine
+pub mod Paths
