@@ -1,3 +1,4 @@
 pub mod DayMachine
 pub mod CycleMachine
 pub mod Paths
+pub mod LostSteps
