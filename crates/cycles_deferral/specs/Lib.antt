@@ -2,3 +2,4 @@ pub mod DayMachine
 pub mod CycleMachine
 pub mod Paths
 pub mod LostSteps
+pub mod Tracks
