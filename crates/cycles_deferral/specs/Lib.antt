@@ -3,3 +3,4 @@ pub mod CycleMachine
 pub mod Paths
 pub mod LostSteps
 pub mod Tracks
+pub mod Knows
