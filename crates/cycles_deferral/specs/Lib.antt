@@ -4,3 +4,4 @@ pub mod Paths
 pub mod LostSteps
 pub mod Tracks
 pub mod Knows
+pub mod DeferLaws
