@@ -5,3 +5,4 @@ pub mod LostSteps
 pub mod Tracks
 pub mod Knows
 pub mod DeferLaws
+pub mod DaySteps
