@@ -6,3 +6,4 @@ pub mod Tracks
 pub mod Knows
 pub mod DeferLaws
 pub mod DaySteps
+pub mod DayPaths
