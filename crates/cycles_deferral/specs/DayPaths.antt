@@ -1,6 +1,6 @@
 -- The paths of days: where they lead, which marks they choose, and which histories they take.
-use Rattle.std.proofs.Common.{◌≡◌, ◌↔◌, ℕ, ◌+◌, ◌-◌, ◌<◌, ◌≤◌, ◌⊎◌, true, List, [], ◌∷◌, ◌++◌, length, refl, sym, ◌∙◌, ap, subst, arith, append_assoc, append-nil, inl, inr, zero, suc, get_or}
-use Rattle.std.specs.Prelude.{ℤ, pos, ◌+ℤ◌, ◌*ℤ◌, ◌<ℤ◌, Option, None, Some, Contains, AllPairs, replicate}
+use Rattle.std.proofs.Common.{◌≡◌, ℕ, ◌+◌, ◌-◌, ◌<◌, ◌≤◌, List, [], ◌∷◌, ◌++◌, length, refl, sym, ◌∙◌, ap, subst, arith, append_assoc, append-nil, inl, inr, zero, suc, get_or}
+use Rattle.std.specs.Prelude.{◌<ℤ◌, Option, None, Some, Contains, replicate}
 use Rattle.std.specs.Option.{option_to_list}
 use Rattle.std.proofs.lemmas.Bool.{cases_lt, cases_eq, cases_Bool}
 use Rattle.std.proofs.lemmas.Int.{ints}
@@ -9,17 +9,15 @@ use Rattle.std.proofs.lemmas.List.Kept.{AllPairs-cons}
 use Rattle.duty_core.specs.declared.activity.Activity.{Activity}
 use Rattle.duty_core.specs.declared.activity.Activity.TheVariants.{Off}
 use Rattle.duty_core.specs.declared.mark.Mark.{Mark}
-use Rattle.duty_core.specs.declared.mark.Mark.TheVariants.{DeferDay}
 use Rattle.duty_core.specs.declared.params.Params.{Params}
 use Rattle.duty_core.specs.declared.params.RestWay.{RestWay}
-use Rattle.duty_core.specs.declared.limits.TheConstants.{DAY_MINUTES, CA_LOST_LIMIT}
+use Rattle.duty_core.specs.declared.limits.TheConstants.{CA_LOST_LIMIT}
 use Rattle.duty_core.specs.Activity.{rests}
-use Rattle.duty_core.specs.Day.{day_start}
 use Rattle.duty_core.specs.LostMinutes.{lost}
 use Rattle.duty_core.specs.Marks.{mark_minute, AreInOrder}
 use Rattle.duty_core.specs.MarkListLaws.{no_member, contains_head, contains_behind, contains_cases}
 use Rattle.cycles_deferral.specs.declared.days.CanadaDays.{CanadaDays}
-use Rattle.cycles_deferral.specs.Paths.{AreDays, date_of, TakesDays}
+use Rattle.cycles_deferral.specs.Paths.{AreDays, TakesDays}
 use Rattle.cycles_deferral.specs.LostSteps.{length_more, lost_at_rest, lost_less, IsOpenRun}
 use Rattle.cycles_deferral.specs.Tracks.{run_at_rest, run_at_duty, lost_later, lost_earlier}
 use Rattle.cycles_deferral.specs.DayMachine.{rest_on}
@@ -90,7 +88,7 @@ newly_rise : (params : Params) (day : ℕ → ℕ) (p v q : List Activity) (m n 
 unfolding IsFence
 newly_rise params day p v q m n fence h g =
     subst (λ z. mark_minute params z <ℤ mark_minute params n) (sym h.is) (subst (λ z. mark_minute params (mark_at h.number) <ℤ mark_minute params z) (sym g.is) (
-      marks_rise params h.number g.number (fence h.number g.number h.more h.less g.more g.less)))
+    marks_rise params h.number g.number (fence h.number g.number h.more h.less g.more g.less)))
 
 later_join : (params : Params) (day : ℕ → ℕ) (p v q : List Activity) (o : Option Mark) (later : List Mark) → IsMarkOf day p v o → AreLater params day v q later →
     ((j : ℕ) → lost day p j ≤ lost day v j) → ((j : ℕ) → lost day v j ≤ lost day q j) → IsFence day p v q → AreLater params day p q (option_to_list o ++ later)

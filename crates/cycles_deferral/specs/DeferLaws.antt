@@ -4,7 +4,7 @@ use Rattle.std.specs.Prelude.{nat_lt, nat_le}
 use Rattle.std.proofs.lemmas.Bool.{cases_lt, cases_eq, cases_Bool}
 use Rattle.std.proofs.lemmas.Bool.Decides.{nat_tests}
 use Rattle.duty_core.specs.declared.activity.Activity.{Activity}
-use Rattle.duty_core.specs.declared.limits.TheConstants.{DAY_MINUTES, CA_FULL_REST, CA_LOST_LIMIT, CA_DEFERRED_LOST_LIMIT, CA_BOTH_LOST_LIMIT}
+use Rattle.duty_core.specs.declared.limits.TheConstants.{DAY_MINUTES, CA_LOST_LIMIT, CA_DEFERRED_LOST_LIMIT, CA_BOTH_LOST_LIMIT}
 use Rattle.duty_core.specs.Activity.{rests}
 use Rattle.duty_core.specs.History.{unit_at}
 use Rattle.duty_core.specs.LostMinutes.{lost}
@@ -14,7 +14,7 @@ use Rattle.cycles_deferral.specs.declared.days.CanadaDays.{CanadaDays}
 use Rattle.cycles_deferral.specs.DayMachine.{needed, keeps_defer}
 use Rattle.cycles_deferral.specs.Paths.{AreDays}
 use Rattle.cycles_deferral.specs.LostSteps.{rests_past, length_more, rest_front, rest_last, rest_more, rest_less, before_last, lost_at_rest, lost_less, IsOpenRun}
-use Rattle.cycles_deferral.specs.Tracks.{Tracks, lost_later, lost_earlier, days_near, days_up_to}
+use Rattle.cycles_deferral.specs.Tracks.{lost_later, lost_earlier, days_near, days_up_to}
 use Rattle.cycles_deferral.specs.Knows.{HasRestSoFar, IsLongest, IsClocked, Knows, clock_last, clock_over}
 
 -- each day that loses more than its limit is deferred

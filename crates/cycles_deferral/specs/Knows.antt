@@ -1,12 +1,11 @@
 -- What the days say of deferral: the day before yesterday, the longest rests of two days, and how far the day has come.
-use Rattle.std.proofs.Common.{◌≡◌, ℕ, ◌+◌, ◌-◌, ◌<◌, ◌≤◌, ◌⊎◌, min, max, Bool, true, false, cond, List, [], ◌∷◌, ◌++◌, length, refl, sym, ◌∙◌, ap, subst, arith, inl, inr}
+use Rattle.std.proofs.Common.{◌≡◌, ℕ, ◌+◌, ◌-◌, ◌<◌, ◌≤◌, ◌⊎◌, max, true, false, List, [], ◌∷◌, ◌++◌, length, refl, sym, ◌∙◌, ap, subst, arith, inl, inr}
 use Rattle.std.specs.Prelude.{nat_lt}
 use Rattle.std.proofs.lemmas.Bool.{cases_lt, cases_eq, cases_Bool, cond-true, cond-false}
 use Rattle.std.proofs.lemmas.Bool.Decides.{nat_tests}
 use Rattle.duty_core.specs.declared.activity.Activity.{Activity}
 use Rattle.duty_core.specs.declared.limits.TheConstants.{DAY_MINUTES}
 use Rattle.duty_core.specs.Activity.{rests}
-use Rattle.duty_core.specs.History.{unit_at}
 use Rattle.duty_core.specs.Stretch.{IsRest}
 use Rattle.duty_core.specs.LostMinutes.{lost}
 use Rattle.duty_core.specs.Deferral.{HasRestIn}
@@ -267,13 +266,13 @@ knows_rested day p x d s r e h = record {
   tracks = tracks_rested day p x d s r e h.tracks;
   lost_before = λ j q. lost_at_rest day p x j r ∙ h.lost_before j q;
   longest_today = longest_at_rest day p x s.rest d s.today.longest r h.tracks.run h.longest_today (
-    let n = length_more p x in
-    record {
-      at = length p;
-      of_day = e;
-      inside = omega arith;
-      rest = λ k a b. rest_more p x k r ∙ rests_past p k a;
-    });
+      let n = length_more p x in
+      record {
+        at = length p;
+        of_day = e;
+        inside = omega arith;
+        rest = λ k a b. rest_more p x k r ∙ rests_past p k a;
+      });
   longest_yesterday = λ j q. elim (cases_Bool s.reaches) [
     | inl t ↦ subst (IsLongest day (p ++ x ∷ []) j) (sym (cond-true s.reaches (max s.yesterday.longest (rest_on s.rest)) s.yesterday.longest t))
         (longest_at_rest day p x s.rest j s.yesterday.longest r h.tracks.run (h.longest_yesterday j q) (reach_more day p x j r (h.reaches t j q)))

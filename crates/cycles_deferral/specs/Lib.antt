@@ -7,3 +7,4 @@ pub mod Knows
 pub mod DeferLaws
 pub mod DaySteps
 pub mod DayPaths
+pub mod DaysExact

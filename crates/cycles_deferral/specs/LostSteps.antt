@@ -1,11 +1,11 @@
 -- The lost minutes of days at one more minute. A rest run that is not over is not lost, as if rest followed for good.
-use Rattle.std.proofs.Common.{◌≡◌, ℕ, ◌+◌, ◌-◌, ◌<◌, ◌≤◌, Bool, true, false, cond, not, ◌&&◌, List, [], ◌∷◌, ◌++◌, length, refl, sym, ◌∙◌, ap, subst, arith, length-append, inl, inr, ◌⊎◌, zero, suc}
-use Rattle.std.specs.Prelude.{nat_eq, nat_lt, nat_le}
-use Rattle.std.proofs.lemmas.Bool.{cases_lt, cases_eq, cases_Bool}
+use Rattle.std.proofs.Common.{◌≡◌, ℕ, ◌+◌, ◌-◌, ◌<◌, ◌≤◌, Bool, true, false, cond, ◌&&◌, List, [], ◌∷◌, ◌++◌, length, refl, sym, ◌∙◌, ap, arith, length-append, inl, inr, ◌⊎◌, zero, suc}
+use Rattle.std.specs.Prelude.{nat_eq, nat_le}
+use Rattle.std.proofs.lemmas.Bool.{cases_lt, cases_eq}
 use Rattle.std.proofs.lemmas.Bool.Decides.{nat_tests}
 use Rattle.duty_core.specs.declared.activity.Activity.{Activity}
 use Rattle.duty_core.specs.declared.limits.TheConstants.{CA_BLOCK_LEAST}
-use Rattle.duty_core.specs.Activity.{rests, works}
+use Rattle.duty_core.specs.Activity.{rests}
 use Rattle.duty_core.specs.History.{unit_at}
 use Rattle.duty_core.specs.HistoryLaws.{unit_at-append, unit_at-last, unit_at-past}
 use Rattle.duty_core.specs.Stretch.{IsRest}
@@ -105,7 +105,7 @@ lost_at_rest day p x j r =
     let same : (i : ℕ) → is_lost (p ++ x ∷ []) i ≡ is_lost p i = λ i. lost_as (p ++ x ∷ []) p i (λ k. rest_more p x k r) in
     let a = places_same (λ i. nat_eq (day i) j && is_lost (p ++ x ∷ []) i) (λ i. nat_eq (day i) j && is_lost p i) (length p) (λ i l. ap (λ b. nat_eq (day i) j && b) (same i)) in
     let b : cond {A = ℕ} (nat_eq (day (length p)) j && is_lost (p ++ x ∷ []) (length p)) 1 0 ≡ 0 =
-        ap (λ b. cond {A = ℕ} (nat_eq (day (length p)) j && b) 1 0) (same (length p) ∙ lost_past p (length p) (omega arith)) ∙ and_none (nat_eq (day (length p)) j) in
+    ap (λ b. cond {A = ℕ} (nat_eq (day (length p)) j && b) 1 0) (same (length p) ∙ lost_past p (length p) (omega arith)) ∙ and_none (nat_eq (day (length p)) j) in
     let c = lost_more day p x j in
     omega arith
 
@@ -139,30 +139,30 @@ kept_front p x i h l = record { from = h.from; after = h.after; before = h.befor
 lost_long : (p : List Activity) (x : Activity) (r i : ℕ) → rests x ≡ false → IsOpenRun p r → CA_BLOCK_LEAST ≤ r → i < length p → is_lost (p ++ x ∷ []) i ≡ is_lost p i
 lost_long p x r i w h l m =
     lost_same (p ++ x ∷ []) p i (kept_back p x i w m) (λ k.
-      let s = k.after in
-      let f = k.before in
-      let t = h.there in
-      elim (cases_lt (length p) (k.from + CA_BLOCK_LEAST)) [
-        | inl lt ↦ record {
-          from = length p - CA_BLOCK_LEAST;
-          after = omega arith;
-          before = omega arith;
-          rest = λ c a b. rest_front p x c (omega arith) ∙ h.rest c (omega arith) (omega arith);
-        }
-        | inr le ↦ kept_front p x i k le
-      ])
+    let s = k.after in
+    let f = k.before in
+    let t = h.there in
+    elim (cases_lt (length p) (k.from + CA_BLOCK_LEAST)) [
+      | inl lt ↦ record {
+        from = length p - CA_BLOCK_LEAST;
+        after = omega arith;
+        before = omega arith;
+        rest = λ c a b. rest_front p x c (omega arith) ∙ h.rest c (omega arith) (omega arith);
+      }
+      | inr le ↦ kept_front p x i k le
+    ])
 
 -- before a short rest nothing changes
 lost_before : (p : List Activity) (x : Activity) (r i : ℕ) → rests x ≡ false → IsOpenRun p r → r < CA_BLOCK_LEAST → i + r < length p → is_lost (p ++ x ∷ []) i ≡ is_lost p i
 lost_before p x r i w h l m =
     lost_same (p ++ x ∷ []) p i (kept_back p x i w (omega arith)) (λ k.
-      let s = k.after in
-      let f = k.before in
-      let o : ℕ = length p - r - 1 in
-      elim (cases_lt o (k.from + CA_BLOCK_LEAST)) [
-        | inl lt ↦ absurd (let c : true ≡ false = sym (k.rest o (omega arith) lt) ∙ h.starts (omega arith) o (omega arith) in cc)
-        | inr le ↦ kept_front p x i k (omega arith)
-      ])
+    let s = k.after in
+    let f = k.before in
+    let o : ℕ = length p - r - 1 in
+    elim (cases_lt o (k.from + CA_BLOCK_LEAST)) [
+      | inl lt ↦ absurd (let c : true ≡ false = sym (k.rest o (omega arith) lt) ∙ h.starts (omega arith) o (omega arith) in cc)
+      | inr le ↦ kept_front p x i k (omega arith)
+    ])
 
 -- the short rest itself: not lost while it goes on for good, and lost now
 lost_within : (p : List Activity) (r i : ℕ) → IsOpenRun p r → length p ≤ i + r → is_lost p i ≡ false
@@ -175,11 +175,11 @@ lost_within p r i h l = kept_not_lost p i (record {
 
 lost_now : (p : List Activity) (x : Activity) (r i : ℕ) → rests x ≡ false → IsOpenRun p r → r < CA_BLOCK_LEAST → length p ≤ i + r → i < length p → is_lost (p ++ x ∷ []) i ≡ true
 lost_now p x r i w h l m n = lost_open (p ++ x ∷ []) i (λ k.
-  let s = k.after in
-  let f = k.before in
-  let e = before_last p x k.from (k.from + CA_BLOCK_LEAST) i w k.rest s f n in
-  let o : ℕ = length p - r - 1 in
-  absurd (let c : true ≡ false = sym (k.rest o (omega arith) (omega arith)) ∙ (rest_front p x o (omega arith) ∙ h.starts (omega arith) o (omega arith)) in cc))
+    let s = k.after in
+    let f = k.before in
+    let e = before_last p x k.from (k.from + CA_BLOCK_LEAST) i w k.rest s f n in
+    let o : ℕ = length p - r - 1 in
+    absurd (let c : true ≡ false = sym (k.rest o (omega arith) (omega arith)) ∙ (rest_front p x o (omega arith) ∙ h.starts (omega arith) o (omega arith)) in cc))
 
 lost_last : (p : List Activity) (x : Activity) → rests x ≡ false → is_lost (p ++ x ∷ []) (length p) ≡ true
 lost_last p x r = lost_open (p ++ x ∷ []) (length p) (λ k. absurd (let c : true ≡ false = sym (k.rest (length p) k.after k.before) ∙ (rest_last p x ∙ r) in cc))

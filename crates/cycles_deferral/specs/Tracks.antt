@@ -1,7 +1,7 @@
 -- What the days say of lost minutes: those of today and of yesterday, and of the short rest that may still become lost. p is the history so far, behind its padding.
-use Rattle.std.proofs.Common.{◌≡◌, ℕ, ◌+◌, ◌-◌, ◌<◌, ◌≤◌, min, Bool, true, false, cond, ◌&&◌, List, [], ◌∷◌, ◌++◌, length, refl, sym, ◌∙◌, ap, subst, arith, inl, inr, ◌⊎◌, zero, suc}
+use Rattle.std.proofs.Common.{◌≡◌, ℕ, ◌+◌, ◌-◌, ◌<◌, ◌≤◌, Bool, true, false, cond, ◌&&◌, List, [], ◌∷◌, ◌++◌, length, refl, ◌∙◌, ap, arith, inl, inr, zero, suc}
 use Rattle.std.specs.Prelude.{nat_eq, nat_lt, nat_le}
-use Rattle.std.proofs.lemmas.Bool.{cases_lt, cases_eq, cond-true, cond-false}
+use Rattle.std.proofs.lemmas.Bool.{cases_lt, cond-true, cond-false}
 use Rattle.std.proofs.lemmas.Bool.Decides.{nat_tests}
 use Rattle.duty_core.specs.declared.activity.Activity.{Activity}
 use Rattle.duty_core.specs.declared.limits.TheConstants.{DAY_MINUTES, CA_BLOCK_LEAST}
@@ -9,9 +9,9 @@ use Rattle.duty_core.specs.Activity.{rests}
 use Rattle.duty_core.specs.History.{unit_at}
 use Rattle.duty_core.specs.LostMinutes.{is_lost, lost}
 use Rattle.cycles_deferral.specs.declared.days.CanadaDays.{CanadaDays}
-use Rattle.cycles_deferral.specs.DayMachine.{days_turned, rest_on, rested_day, days_rested, worked_day, days_worked}
+use Rattle.cycles_deferral.specs.DayMachine.{days_turned, rest_on, days_rested, days_worked}
 use Rattle.cycles_deferral.specs.Paths.{AreDays}
-use Rattle.cycles_deferral.specs.LostSteps.{places_none, rests_past, length_more, rest_front, rest_last, rest_more, and_false, lost_at_rest, IsOpenRun, day_places, one_at, lost_at_duty_long, lost_at_duty_short}
+use Rattle.cycles_deferral.specs.LostSteps.{places_none, rests_past, length_more, rest_last, rest_more, and_false, lost_at_rest, IsOpenRun, day_places, one_at, lost_at_duty_long, lost_at_duty_short}
 
 -- d is the day of the last minute, or of the next one
 pub record Tracks (day : ℕ → ℕ) (p : List Activity) (d : ℕ) (s : CanadaDays) : Type 0 where
@@ -150,7 +150,7 @@ short_more day p x r j n c t o h l =
     let b = places_more day j (length p - r) (length p) (omega arith) in
     let d = h (omega arith) in
     let e : day_places day j (length (p ++ x ∷ []) - rest_on r) (length (p ++ x ∷ [])) ≡ day_places day j (length p - r) (suc (length p)) =
-        ap (λ b. day_places day j b (length (p ++ x ∷ []))) a ∙ ap (day_places day j (length p - r)) m in
+    ap (λ b. day_places day j b (length (p ++ x ∷ []))) a ∙ ap (day_places day j (length p - r)) m in
     let f = short_on r n c l in
     omega arith
 
