@@ -8,3 +8,4 @@ pub mod DeferLaws
 pub mod DaySteps
 pub mod DayPaths
 pub mod DaysExact
+pub mod Counts
