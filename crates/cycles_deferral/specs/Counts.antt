@@ -1,22 +1,21 @@
 -- What the counts of a cycle say of the history so far: p, behind its padding.
-use Rattle.std.proofs.Common.{◌≡◌, ℕ, ◌+◌, ◌-◌, ◌*◌, ◌<◌, ◌≤◌, ◌⊎◌, min, Bool, true, false, cond, not, List, [], ◌∷◌, ◌++◌, length, take, drop, refl, sym, ◌∙◌, ap, subst, arith, inl, inr}
-use Rattle.std.specs.Prelude.{count_by, nat_eq, nat_lt, nat_le, if◌then◌else◌, replicate, sum}
-use Rattle.std.proofs.lemmas.Bool.{cases_lt, cases_eq, cases_Bool, cond-true, cond-false}
+use Rattle.std.proofs.Common.{◌≡◌, ℕ, ◌+◌, ◌-◌, ◌<◌, ◌≤◌, min, Bool, true, false, cond, not, List, [], ◌∷◌, ◌++◌, length, drop, refl, sym, ◌∙◌, ap, subst, arith, inl, inr}
+use Rattle.std.specs.Prelude.{count_by, nat_eq, nat_lt}
+use Rattle.std.proofs.lemmas.Bool.{cases_lt, cases_eq, cond-true, cond-false}
 use Rattle.std.proofs.lemmas.Bool.Decides.{nat_tests}
-use Rattle.std.proofs.lemmas.List.{take_all, length-replicate}
 use Rattle.duty_core.specs.declared.activity.Activity.{Activity}
-use Rattle.duty_core.specs.declared.limits.TheConstants.{CA_CYCLE_2, CA_CYCLE_2_RESET, CA_CYCLE_2_DAYS, CA_DAY_OFF}
+use Rattle.duty_core.specs.declared.limits.TheConstants.{CA_CYCLE_2, CA_CYCLE_2_RESET, CA_DAY_OFF}
 use Rattle.duty_core.specs.Activity.{rests, works}
-use Rattle.duty_core.specs.History.{unit_at, between}
+use Rattle.duty_core.specs.History.{unit_at}
 use Rattle.duty_core.specs.HistoryLaws.{alike_back, alike_append, unit_at-last}
 use Rattle.duty_core.specs.RestRun.{IsLongRun}
-use Rattle.duty_core.specs.RunLaws.{EndsIn, ends_rest, ends_duty, run_inside, run_ends, run_is_open, no_run_at_rest, long_alike}
+use Rattle.duty_core.specs.RunLaws.{EndsIn, ends_rest, run_inside, run_ends, run_is_open, no_run_at_rest, long_alike}
 use Rattle.duty_core.specs.Stretch.{IsRest}
 use Rattle.duty_core.specs.Counting.{duty, IsLastEnd}
 use Rattle.duty_core.specs.CountLaws.{count_more, count_none}
 use Rattle.duty_core.specs.LostLaws.{works_is}
 use Rattle.duty_core.specs.CaCycle.{cycle_days, cycle_reset}
-use Rattle.day_sums.specs.Sums.{added, rolled, cleared}
+use Rattle.day_sums.specs.Sums.{cleared}
 use Rattle.day_sums.specs.SumLaws.{length-added, length-cleared}
 use Rattle.day_sums.specs.Counted.{TracksDays, IsTurn, turned, after_rest, length-turned, tracks_duty, tracks_rest}
 use Rattle.cycles_deferral.specs.declared.cycle.TheConstants.{SINCE_LIMIT, WITHOUT_LIMIT}
@@ -239,7 +238,7 @@ counts_rested day days p x s r h =
     let len = h.days_counted in
     let ends = ends_rest p x h.run r h.tracked.ends in
     let tracked : TracksDays day reset (p ++ x ∷ []) (h.run + 1) (after_rest reset (s.rest + 1) sums) = subst (TracksDays day reset (p ++ x ∷ []) (h.run + 1)) (capped_rest s.cycle h.run s.rest sums c)
-        (tracks_rest day reset p x new h.run s.sums r (omega arith) (days_up_to day days) (is_turn day days p h.tracked.some) h.tracked) in
+    (tracks_rest day reset p x new h.run s.sums r (omega arith) (days_up_to day days) (is_turn day days p h.tracked.some) h.tracked) in
     let counted : length (after_rest reset (s.rest + 1) sums) ≡ cycle_days s.cycle = length_after_rest reset (s.rest + 1) sums ∙ (length-turned new s.sums ∙ len) in
     elim (cases_lt (h.run + 1) CA_DAY_OFF) [
       | inl l ↦ (

@@ -9,3 +9,4 @@ pub mod DaySteps
 pub mod DayPaths
 pub mod DaysExact
 pub mod Counts
+pub mod CycleExact
