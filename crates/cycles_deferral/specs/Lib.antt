@@ -10,3 +10,4 @@ pub mod DayPaths
 pub mod DaysExact
 pub mod Counts
 pub mod CycleExact
+pub mod CountryDays
