@@ -1,7 +1,7 @@
 -- Days and cycles of a Canadian book: the numbers of its days, where they begin, and its rules.
-use Rattle.std.proofs.Common.{◌≡◌, ◌↔◌, ℕ, ◌+◌, ◌-◌, ◌*◌, ◌/◌, ◌%◌, ◌<◌, ◌≤◌, ◌⊎◌, Bool, true, false, cond, List, [], ◌∷◌, ◌++◌, length, take, refl, sym, ◌∙◌, ap, subst, arith, inl, inr}
-use Rattle.std.specs.Prelude.{nat_eq, nat_lt, nat_le, ℤ, pos, ◌+ℤ◌, ◌-ℤ◌, Contains, sum, ◌==◌}
-use Rattle.std.proofs.lemmas.Bool.{cases_lt, cases_eq, cases_Bool, cond-true, cond-false}
+use Rattle.std.proofs.Common.{◌≡◌, ◌↔◌, ℕ, ◌+◌, ◌-◌, ◌*◌, ◌/◌, ◌%◌, ◌<◌, ◌≤◌, Bool, true, false, List, [], refl, sym, ◌∙◌, arith, inl, inr}
+use Rattle.std.specs.Prelude.{nat_lt, ℤ, Contains, ◌==◌}
+use Rattle.std.proofs.lemmas.Bool.{cases_eq}
 use Rattle.std.proofs.lemmas.Bool.Decides.{nat_tests}
 use Rattle.std.proofs.lemmas.Int.{ints}
 use Rattle.duty_core.specs.declared.activity.Activity.{Activity}
@@ -11,18 +11,15 @@ use Rattle.duty_core.specs.declared.params.Params.{Params}
 use Rattle.duty_core.specs.declared.params.Params.TheVariants.{UsProperty, Canada, Hvnl}
 use Rattle.duty_core.specs.declared.params.RestWay.{RestWay}
 use Rattle.duty_core.specs.declared.params.RestWay.TheVariants.{Split, Defer}
-use Rattle.duty_core.specs.declared.rule.Rule.TheVariants.{CaOff10, CaDefer, CaPair, Ca24in14, CaCycle, Ca70without24}
+use Rattle.duty_core.specs.declared.rule.Rule.TheVariants.{CaOff10, CaDefer, Ca24in14, CaCycle, Ca70without24}
 use Rattle.duty_core.specs.declared.limits.TheConstants.{DAY_MINUTES, CA_LOST_LIMIT}
-use Rattle.duty_core.specs.Activity.{works}
 use Rattle.duty_core.specs.History.{pad_days}
 use Rattle.duty_core.specs.Day.{day_at, day_number}
 use Rattle.duty_core.specs.DayLaws.{number_of_day}
-use Rattle.duty_core.specs.Counting.{duty}
-use Rattle.duty_core.specs.CaShift.{IsSplitWay, MeetsCaPair}
-use Rattle.duty_core.specs.CaCycle.{cycle_days, cycle_reset}
+use Rattle.duty_core.specs.CaShift.{MeetsCaPair}
 use Rattle.duty_core.specs.LostMinutes.{lost}
-use Rattle.duty_core.specs.Deferral.{IsDeferWay, MeetsCaOff10, MeetsCaDefer}
-use Rattle.duty_core.specs.Marks.{AreInOrder, IsDeferred}
+use Rattle.duty_core.specs.Deferral.{IsDeferWay}
+use Rattle.duty_core.specs.Marks.{AreInOrder}
 use Rattle.duty_core.specs.RuleBooks.{Keeps}
 use Rattle.cycles_deferral.specs.declared.days.CanadaDays.{CanadaDays}
 use Rattle.cycles_deferral.specs.declared.cycle.CycleCount.{CycleCount}
@@ -30,7 +27,7 @@ use Rattle.cycles_deferral.specs.DayMachine.{fresh_days}
 use Rattle.cycles_deferral.specs.CycleMachine.{fresh_cycle}
 use Rattle.cycles_deferral.specs.Paths.{ca_pads, ca_padded, AreDays, begins, date_of, TakesDays, TakesCycle, AreDeferrals}
 use Rattle.cycles_deferral.specs.DaysExact.{days_exact_split, days_exact_defer}
-use Rattle.cycles_deferral.specs.CycleExact.{KeepsCycle, cycle_exact}
+use Rattle.cycles_deferral.specs.CycleExact.{cycle_exact}
 
 -- # The days of a book
 
@@ -83,10 +80,10 @@ pub split_rules : (berth : Bool) (cycle start first : ℕ) (h : List Activity) (
     ↔ (NoDeferral marks × ((j : ℕ) → lost (day_number (Canada berth Split cycle start) first) (ca_padded h) j ≤ CA_LOST_LIMIT))
 split_rules berth cycle start first h marks = (
   (λ k.
-    let none : (date : ℤ) → Contains marks (DeferDay date) → ⊥ = λ date c. absurd (let w = (k.1 date c).defer_way in let z : Split ≡ Defer = w in cc) in (
-      record { none = none },
-      (λ j. elim (k.0 j) [ inr l ↦ l | inl d ↦ elim d [ inl m ↦ absurd (none m.day m.marked) | inr m ↦ absurd (let i = m.2 in none i.day i.marked) ] ]),
-    )),
+      let none : (date : ℤ) → Contains marks (DeferDay date) → ⊥ = λ date c. absurd (let w = (k.1 date c).defer_way in let z : Split ≡ Defer = w in cc) in (
+        record { none = none },
+        (λ j. elim (k.0 j) [ inr l ↦ l | inl d ↦ elim d [ inl m ↦ absurd (none m.day m.marked) | inr m ↦ absurd (let i = m.2 in none i.day i.marked) ] ]),
+      )),
   (λ k. ((λ j. inr (k.1 j)), (λ date c. absurd (k.0.none date c)))),
 )
 

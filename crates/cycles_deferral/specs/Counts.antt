@@ -65,7 +65,7 @@ days_some cycle = elim (cases_eq cycle 1) [ inl e ↦ grind (arith, nat_tests) |
 
 -- # A new day
 
-is_turn : (day : ℕ → ℕ) → AreDays day → (p : List Activity) → 0 < length p → IsTurn day p (begins day (length p))
+pub is_turn : (day : ℕ → ℕ) → AreDays day → (p : List Activity) → 0 < length p → IsTurn day p (begins day (length p))
 is_turn day days p some =
     let n : ℕ = length p in
     let a = days.on (n - 1) in

@@ -11,3 +11,4 @@ pub mod DaysExact
 pub mod Counts
 pub mod CycleExact
 pub mod CountryDays
+pub mod Room

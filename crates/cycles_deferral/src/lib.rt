@@ -4,6 +4,11 @@
 
 mod cycle;
 mod days;
+mod laws;
 
 pub use cycle::CycleCount;
 pub use days::{CanadaDays, DayCount};
+pub use laws::{
+    book_days_are_days, cycle_has_one_path, cycle_is_exact, days_have_one_path,
+    deferred_days_are_exact, split_days_are_exact,
+};
