@@ -40,8 +40,7 @@ pub fn split_days_are_exact()
 /// Under `defer` the days take a history with these marks exactly where these are marks of
 /// deferrals, in order, with which it keeps CA-OFF10 and CA-DEFER, rest before and behind it.
 pub fn deferred_days_are_exact(params: Params)
-    requires { IsDeferWay params }
-    ensures { (day : ℕ → ℕ) → AreDays day → (h : List Activity) (marks : List Mark) →
+    ensures { IsDeferWay params → (day : ℕ → ℕ) → AreDays day → (h : List Activity) (marks : List Mark) →
         ((t : CanadaDays) × TakesDays day (fresh_days Defer) ca_pads h marks t) ↔
         (AreDeferrals marks × AreInOrder params marks × ((j : ℕ) → MeetsCaOff10 day (ca_padded h) (IsDeferred marks) j) × MeetsCaDefer params day (ca_padded h) marks) }
 {

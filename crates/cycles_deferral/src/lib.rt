@@ -5,6 +5,8 @@
 mod cycle;
 mod days;
 mod laws;
+#[cfg(test)]
+mod tests;
 
 pub use cycle::CycleCount;
 pub use days::{CanadaDays, DayCount};
