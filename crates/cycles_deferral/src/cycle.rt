@@ -71,39 +71,39 @@ impl CycleCount {
     }
 
     /// The number of the cycle.
-    pub fn cycle(self) -> u8
-        ensures { result ≡ self.cycle }
+    pub fn cycle(&self) -> u8
+        ensures { result ≡ self.now.cycle }
     {
         self.cycle
     }
 
     /// The rest run in progress, in minutes, up to a reset.
-    pub fn rest(self) -> u32
-        ensures { result ≡ self.rest }
+    pub fn rest(&self) -> u32
+        ensures { result ≡ self.now.rest }
     {
         self.rest
     }
 
     /// The duty of the days of the cycle since the last reset, zeros while the history ends with
     /// one.
-    pub fn sums(self) -> DaySums
-        ensures { result ≡ self.sums }
+    pub fn sums(&self) -> DaySums
+        ensures { result ≡ self.now.sums }
     {
         self.sums
     }
 
     /// The time since 24 consecutive hours of rest were there, in minutes: 0 while these last, and
     /// at most 18,721, with which they don't lie in the fortnight before a minute any more.
-    pub fn since(self) -> u32
-        ensures { result ≡ self.since }
+    pub fn since(&self) -> u32
+        ensures { result ≡ self.now.since }
     {
         self.since
     }
 
     /// The duty since the last rest run of 24 hours, in minutes, up to 4,201: in cycle 2, and 0
     /// while the history ends with such a run.
-    pub fn without(self) -> u32
-        ensures { result ≡ self.without }
+    pub fn without(&self) -> u32
+        ensures { result ≡ self.now.without }
     {
         self.without
     }

@@ -1,5 +1,7 @@
 //! Days and cycles around each number that a rule names, told by hand.
-ghost use Rattle.std.specs.Prelude.{◌+◌, ◌<◌, ◌≤◌, IfSome};
+ghost use Rattle.std.specs.Prelude.{◌≡◌, ◌+◌, ◌<◌, true, IfSome};
+ghost use Rattle.duty_core.specs.declared.limits.TheConstants.{DAY_MINUTES};
+ghost use Rattle.day_sums.specs.Sums.{today};
 ghost use Rattle.cycles_deferral.specs.DayMachine.{IsCanadaDays};
 ghost use Rattle.cycles_deferral.specs.CycleMachine.{IsCycleCount};
 
@@ -171,6 +173,16 @@ fn days_have_parts(rt: HostRuntime) -> Result<(), Fail> {
     Ok(())
 }
 
+/// Whether a minute more of duty fits in the youngest day.
+fn has_room(sums: DaySums) -> bool
+    ensures { result ≡ true → today sums < DAY_MINUTES }
+{
+    match sums.sums().first() {
+        Some(n) => *n < DAY_MINUTES,
+        None => false,
+    }
+}
+
 /// The counts of a cycle behind so many minutes of an activity, all in one day.
 fn counted(count: CycleCount, act: Activity, n: u32) -> Option<CycleCount>
     requires good { IsCycleCount count }
@@ -178,7 +190,8 @@ fn counted(count: CycleCount, act: Activity, n: u32) -> Option<CycleCount>
 {
     let mut after = count;
     for _ in 0..n {
-        if after.sums().sums().first().is_none_or(|today| *today >= DAY_MINUTES) {
+        let sums = after.sums();
+        if !has_room(sums) {
             return None;
         }
         after = after.unit(act, false)?;
@@ -231,9 +244,12 @@ fn a_cycle_ends_at_its_limit_and_begins_anew_behind_a_reset(rt: HostRuntime) {
 fn duty_of_other_days_falls_out_of_a_cycle(rt: HostRuntime) -> Result<(), Fail> {
     let sums = DaySums::of_sums([600; 7].as_slice()).ok_or("no sums")?;
     let count = CycleCount::of_parts(1, 0, sums, 0, 0).ok_or("no counts")?;
-    assert!(rt; count.unit(Activity::Drive, false).is_none());
+    let copy = count;
+    let same_day = copy.unit(Activity::Drive, false);
+    assert!(rt; same_day.is_none());
     let next = count.unit(Activity::Drive, true).ok_or("refused")?;
-    assert_eq!(rt; next.sums().total(), 3601);
+    let sums = next.sums();
+    assert_eq!(rt; sums.total(), 3601);
     assert_eq!(rt; next.cycle(), 1);
     assert_eq!(rt; next.rest(), 0);
     assert_eq!(rt; next.since(), 1);
@@ -250,13 +266,18 @@ fn a_fortnight_holds_a_day_off(rt: HostRuntime) -> Result<(), Fail> {
         count = counted(count, Activity::Off, 1439).ok_or("refused")?;
     }
     // With the 1,440 minutes of rest before them these are 20,160 minutes.
-    assert!(rt; count.unit(Activity::Drive, true).is_some());
-    let later = count.unit(Activity::Serve, true).ok_or("refused")?;
-    assert!(rt; later.unit(Activity::Drive, false).is_none());
+    let copy = count;
+    let driven = copy.unit(Activity::Drive, true);
+    assert!(rt; driven.is_some());
+    let copy = count;
+    let later = copy.unit(Activity::Serve, true).ok_or("refused")?;
+    let driven = later.unit(Activity::Drive, false);
+    assert!(rt; driven.is_none());
     // One more minute of rest makes the last rest a day off.
     let rested = count.unit(Activity::Off, true).ok_or("refused")?;
     assert_eq!(rt; rested.since(), 0);
-    assert!(rt; rested.unit(Activity::Drive, false).is_some());
+    let driven = rested.unit(Activity::Drive, false);
+    assert!(rt; driven.is_some());
     Ok(())
 }
 
