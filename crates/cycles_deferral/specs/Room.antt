@@ -55,7 +55,7 @@ today_most day days p s h same = elim (cases_lt h.run (cycle_reset s.cycle)) [
   | inr l ↦ (let e : today s.sums ≡ 0 = ap today (h.tracked.rested l) ∙ today_cleared s.sums in omega arith)
 ]
 
-room_on : (s : CycleCount) (x : Activity) (new : Bool) → ((new ≡ true) ⊎ ((new ≡ false) × (today s.sums < DAY_MINUTES))) → HasRoom s x new
+pub room_on : (s : CycleCount) (x : Activity) (new : Bool) → ((new ≡ true) ⊎ ((new ≡ false) × (today s.sums < DAY_MINUTES))) → HasRoom s x new
 room_on s x true h = let a = today_rolled s.sums in let b = one_most (works x) in omega arith
 room_on s x false h = elim h [ inl e ↦ absurd (let z : false ≡ true = e in cc) | inr k ↦ (let l = k.1 in let b = one_most (works x) in omega arith) ]
 

@@ -18,12 +18,7 @@ use std::test::Fail;
 /// The days behind so many minutes of an activity, of which the first one is the minute `from`
 /// after the midnight that begins day 0, with the last mark that was chosen. `None` where a minute
 /// is refused.
-fn spent(
-    days: CanadaDays,
-    from: u32,
-    act: Activity,
-    n: u32,
-) -> Option<(CanadaDays, Option<Mark>)>
+fn spent(days: CanadaDays, from: u32, act: Activity, n: u32) -> Option<(CanadaDays, Option<Mark>)>
     requires good { IsCanadaDays days }
     requires range { from + n < 1000000 }
     ensures { IfSome result (λ r. IsCanadaDays r.0) }
@@ -227,8 +222,12 @@ fn a_cycle_ends_at_its_limit_and_begins_anew_behind_a_reset(rt: HostRuntime) {
         let after = drives_behind(1, rest, sums.as_slice(), 0, 0, Activity::Off, n);
         assert_eq!(rt; after.is_some(), kept, "cycle 1, {rest} and {n}");
     }
-    let full = [600, 600, 600, 600, 600, 600, 600, 600, 600, 600, 600, 600, 0, 0];
-    let almost = [599, 600, 600, 600, 600, 600, 600, 600, 600, 600, 600, 600, 0, 0];
+    let full = [
+        600, 600, 600, 600, 600, 600, 600, 600, 600, 600, 600, 600, 0, 0,
+    ];
+    let almost = [
+        599, 600, 600, 600, 600, 600, 600, 600, 600, 600, 600, 600, 0, 0,
+    ];
     for (sums, rest, n, kept) in [
         (full, 0, 0, false),
         (almost, 0, 0, true),
@@ -257,27 +256,40 @@ fn duty_of_other_days_falls_out_of_a_cycle(rt: HostRuntime) -> Result<(), Fail> 
     Ok(())
 }
 
+/// The counts behind one minute that begins a day.
+fn begun(count: CycleCount, act: Activity) -> Option<CycleCount>
+    requires good { IsCycleCount count }
+    ensures { IfSome result (λ s. IsCycleCount s) }
+{
+    count.unit(act, true)
+}
+
+/// The counts behind so many days with one minute of duty each, and rest that is a minute short of
+/// a day.
+fn nearly_rested(days: u32) -> Option<CycleCount>
+    ensures { IfSome result (λ s. IsCycleCount s) }
+{
+    let mut after = CycleCount::fresh(1);
+    for _ in 0..days {
+        let worked = begun(after, Activity::Serve)?;
+        after = counted(worked, Activity::Off, 1439)?;
+    }
+    Some(after)
+}
+
 #[test]
 fn a_fortnight_holds_a_day_off(rt: HostRuntime) -> Result<(), Fail> {
-    // Thirteen days with one minute of duty each, and rest that is a minute short of a day.
-    let mut count = CycleCount::fresh(1);
-    for _ in 0..13 {
-        count = count.unit(Activity::Serve, true).ok_or("refused")?;
-        count = counted(count, Activity::Off, 1439).ok_or("refused")?;
-    }
-    // With the 1,440 minutes of rest before them these are 20,160 minutes.
-    let copy = count;
-    let driven = copy.unit(Activity::Drive, true);
-    assert!(rt; driven.is_some());
-    let copy = count;
-    let later = copy.unit(Activity::Serve, true).ok_or("refused")?;
-    let driven = later.unit(Activity::Drive, false);
-    assert!(rt; driven.is_none());
+    // With the 1,440 minutes of rest before them these days are 20,160 minutes.
+    let count = nearly_rested(13).ok_or("refused")?;
+    assert!(rt; begun(count, Activity::Drive).is_some());
+    let count = nearly_rested(13).ok_or("refused")?;
+    let later = begun(count, Activity::Serve).ok_or("refused")?;
+    assert!(rt; counted(later, Activity::Drive, 1).is_none());
     // One more minute of rest makes the last rest a day off.
-    let rested = count.unit(Activity::Off, true).ok_or("refused")?;
+    let count = nearly_rested(13).ok_or("refused")?;
+    let rested = begun(count, Activity::Off).ok_or("refused")?;
     assert_eq!(rt; rested.since(), 0);
-    let driven = rested.unit(Activity::Drive, false);
-    assert!(rt; driven.is_some());
+    assert!(rt; counted(rested, Activity::Drive, 1).is_some());
     Ok(())
 }
 
