@@ -24,13 +24,13 @@ AllDeferred day p = (j : ℕ) → CA_LOST_LIMIT < lost day p j → IsDeferral da
 -- # The test
 
 -- what the test says; `more` tells that more minutes of the day follow
-record Passes (s : CanadaDays) (more : Bool) : Type 0 where
-  before_both : CA_LOST_LIMIT < s.before → s.before + s.yesterday.lost ≤ CA_BOTH_LOST_LIMIT
-  before_rest : CA_LOST_LIMIT < s.before → needed s.before ≤ s.yesterday.longest
-  most : CA_LOST_LIMIT < s.yesterday.lost → s.yesterday.lost ≤ CA_DEFERRED_LOST_LIMIT
-  both : CA_LOST_LIMIT < s.yesterday.lost → s.yesterday.lost + s.today.lost ≤ CA_BOTH_LOST_LIMIT
-  rest : more ≡ false → CA_LOST_LIMIT < s.yesterday.lost → needed s.yesterday.lost ≤ s.today.longest
-  today_most : s.today.lost ≤ CA_DEFERRED_LOST_LIMIT
+pub record Passes (s : CanadaDays) (more : Bool) : Type 0 where
+  pub before_both : CA_LOST_LIMIT < s.before → s.before + s.yesterday.lost ≤ CA_BOTH_LOST_LIMIT
+  pub before_rest : CA_LOST_LIMIT < s.before → needed s.before ≤ s.yesterday.longest
+  pub most : CA_LOST_LIMIT < s.yesterday.lost → s.yesterday.lost ≤ CA_DEFERRED_LOST_LIMIT
+  pub both : CA_LOST_LIMIT < s.yesterday.lost → s.yesterday.lost + s.today.lost ≤ CA_BOTH_LOST_LIMIT
+  pub rest : more ≡ false → CA_LOST_LIMIT < s.yesterday.lost → needed s.yesterday.lost ≤ s.today.longest
+  pub today_most : s.today.lost ≤ CA_DEFERRED_LOST_LIMIT
 
 -- the same of plain numbers
 test_of : ℕ → ℕ → ℕ → ℕ → ℕ → Bool → Bool
@@ -56,13 +56,13 @@ test_back : (b y t h g : ℕ) (more : Bool) → (CA_LOST_LIMIT < b → b + y ≤
 unfolding test_of
 test_back b y t h g more a c d e f i = grind (arith, nat_tests)
 
-passes_means : (s : CanadaDays) → keeps_defer s ≡ true → Passes s (nat_lt s.minute DAY_MINUTES)
+pub passes_means : (s : CanadaDays) → keeps_defer s ≡ true → Passes s (nat_lt s.minute DAY_MINUTES)
 unfolding test_of
 passes_means s e =
     let q = test_means s.before s.yesterday.lost s.today.lost s.yesterday.longest s.today.longest (nat_lt s.minute DAY_MINUTES) e in
     record { before_both = q.0; before_rest = q.1; most = q.2; both = q.3; rest = q.4; today_most = q.5 }
 
-passes_from : (s : CanadaDays) → Passes s (nat_lt s.minute DAY_MINUTES) → keeps_defer s ≡ true
+pub passes_from : (s : CanadaDays) → Passes s (nat_lt s.minute DAY_MINUTES) → keeps_defer s ≡ true
 unfolding test_of
 passes_from s h = test_back s.before s.yesterday.lost s.today.lost s.yesterday.longest s.today.longest (nat_lt s.minute DAY_MINUTES) h.before_both h.before_rest h.most h.both h.rest h.today_most
 

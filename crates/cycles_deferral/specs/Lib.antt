@@ -12,3 +12,5 @@ pub mod Counts
 pub mod CycleExact
 pub mod CountryDays
 pub mod Room
+pub mod DayCovers
+pub mod CycleCovers
