@@ -10,11 +10,11 @@ use Rattle.duty_core.specs.History.{unit_at}
 use Rattle.duty_core.specs.HistoryLaws.{alike_back, alike_append, unit_at-last}
 use Rattle.duty_core.specs.RestRun.{IsLongRun}
 use Rattle.duty_core.specs.RunLaws.{EndsIn, ends_rest, run_inside, run_ends, run_is_open, no_run_at_rest, long_alike}
-use Rattle.duty_core.specs.Stretch.{IsRest}
 use Rattle.duty_core.specs.Counting.{duty, IsLastEnd}
 use Rattle.duty_core.specs.CountLaws.{count_more, count_none}
 use Rattle.duty_core.specs.LostLaws.{works_is}
 use Rattle.duty_core.specs.CaCycle.{cycle_days, cycle_reset}
+use Rattle.duty_core.specs.PlainlyBetter.{IsLastDayOff}
 use Rattle.day_sums.specs.Sums.{cleared}
 use Rattle.day_sums.specs.SumLaws.{length-added, length-cleared}
 use Rattle.day_sums.specs.Counted.{TracksDays, IsTurn, turned, after_rest, length-turned, tracks_duty, tracks_rest}
@@ -25,14 +25,7 @@ use Rattle.cycles_deferral.specs.Paths.{AreDays, begins}
 use Rattle.cycles_deferral.specs.LostSteps.{length_more, rest_front, rest_last, rest_less}
 use Rattle.cycles_deferral.specs.Tracks.{days_up_to}
 
--- # The day off
-
--- 24 consecutive hours of rest end right before place e, the last one that p has
-pub record IsLastDayOff (p : List Activity) (e : ℕ) : Type 0 where
-  pub there : CA_DAY_OFF ≤ e
-  pub inside : e ≤ length p
-  pub rest : IsRest p (e - CA_DAY_OFF) e
-  pub last : (c : ℕ) → CA_DAY_OFF ≤ c → c ≤ length p → IsRest p (c - CA_DAY_OFF) c → c ≤ e
+-- # Duty without a day off
 
 -- the duty since the last rest run of 24 hours has ended
 pub record HasWithout (p : List Activity) (w : ℕ) : Type 0 where
@@ -81,41 +74,41 @@ is_turn day days p some =
 day_off_at_duty : (p : List Activity) (x : Activity) (e : ℕ) → rests x ≡ false → IsLastDayOff p e → IsLastDayOff (p ++ x ∷ []) e
 day_off_at_duty p x e r h =
     let n = length_more p x in
-    let i = h.inside in
+    let i = h.before in
     let t = h.there in
     record {
       there = t;
-      inside = omega arith;
+      before = omega arith;
       rest = λ k a b. rest_front p x k (omega arith) ∙ h.rest k a b;
-      last = λ c l m g. elim (cases_lt (length p) c) [
+      last = λ c l g m. elim (cases_lt (length p) c) [
         | inl lt ↦ absurd (let z : true ≡ false = sym (g (length p) (omega arith) lt) ∙ (rest_last p x ∙ r) in cc)
-        | inr le ↦ h.last c l le (λ k a b. rest_less p x k (g k a b))
+        | inr le ↦ h.last c l (λ k a b. rest_less p x k (g k a b)) le
       ];
     }
 
 day_off_at_rest : (p : List Activity) (x : Activity) (e run : ℕ) → run + 1 < CA_DAY_OFF → EndsIn p run → IsLastDayOff p e → IsLastDayOff (p ++ x ∷ []) e
 day_off_at_rest p x e run l ends h =
     let n = length_more p x in
-    let i = h.inside in
+    let i = h.before in
     let t = h.there in
     record {
       there = t;
-      inside = omega arith;
+      before = omega arith;
       rest = λ k a b. rest_front p x k (omega arith) ∙ h.rest k a b;
-      last = λ c m o g. elim (cases_lt (length p) c) [
+      last = λ c m g o. elim (cases_lt (length p) c) [
         | inl lt ↦ (
             let k : ℕ = length p - run - 1 in
             absurd (let z : true ≡ false = sym (rest_less p x k (g k (omega arith) (omega arith))) ∙ ends.starts k (omega arith) in cc))
-        | inr le ↦ h.last c m le (λ k a b. rest_less p x k (g k a b))
+        | inr le ↦ h.last c m (λ k a b. rest_less p x k (g k a b)) le
       ];
     }
 
 day_off_now : (p : List Activity) (run : ℕ) → CA_DAY_OFF ≤ run → EndsIn p run → IsLastDayOff p (length p)
 day_off_now p run l ends = let t = ends.there in record {
   there = omega arith;
-  inside = omega arith;
+  before = omega arith;
   rest = λ k a b. ends.rest k (omega arith) b;
-  last = λ c m o g. o;
+  last = λ c m g o. o;
 }
 
 -- # Duty at one more minute
@@ -245,7 +238,7 @@ counts_rested day days p x s r h =
           let f : s.rest + 1 < CA_DAY_OFF = omega arith in
           let a = rested_short s.rest (min (s.since + 1) SINCE_LIMIT) 0 f in
           let b = rested_short s.rest s.without 0 f in
-          let i = h.is_day_off.inside in
+          let i = h.is_day_off.before in
           let q = h.since_is in
           record {
             run = h.run + 1;
@@ -283,7 +276,7 @@ counts_worked day days p x s r h =
     let n = length_more p x in
     let new : Bool = begins day (length p) in
     let len = h.days_counted in
-    let i = h.is_day_off.inside in
+    let i = h.is_day_off.before in
     let q = h.since_is in
     record {
       run = 0;

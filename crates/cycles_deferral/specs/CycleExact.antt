@@ -14,6 +14,7 @@ use Rattle.duty_core.specs.RunLaws.{ends_padding, run_inside}
 use Rattle.duty_core.specs.Counting.{duty, IsLastEnd, IsDaysBase}
 use Rattle.duty_core.specs.UniqueLaws.{last_end_unique}
 use Rattle.duty_core.specs.RuleLaws.{ca_24in14_is_rule, ca_cycle_is_rule, ca_70without24_is_rule}
+use Rattle.duty_core.specs.PlainlyBetter.{IsLastDayOff}
 use Rattle.duty_core.specs.CaCycle.{MeetsCa24in14, cycle_days, cycle_reset, cycle_limit, MeetsCaCycle, MeetsCa70without24}
 use Rattle.day_sums.specs.Sums.{first_days}
 use Rattle.day_sums.specs.Counted.{IsDutyOfDays, tracks_start, duty_is}
@@ -22,7 +23,7 @@ use Rattle.cycles_deferral.specs.declared.cycle.CycleCount.{CycleCount}
 use Rattle.cycles_deferral.specs.CycleMachine.{fresh_cycle, cycle_rested, cycle_worked, keeps_day_off, keeps_cycle, cycle_ok, cycle_after}
 use Rattle.cycles_deferral.specs.Paths.{ca_pads, ca_padding, ca_padded, AreDays, begins, TakesCycle}
 use Rattle.cycles_deferral.specs.LostSteps.{length_more, rest_front, rest_less}
-use Rattle.cycles_deferral.specs.Counts.{IsLastDayOff, HasWithout, Counts, reset_long, reset_few, days_some, counts_rested, counts_worked}
+use Rattle.cycles_deferral.specs.Counts.{HasWithout, Counts, reset_long, reset_few, days_some, counts_rested, counts_worked}
 use Rattle.cycles_deferral.specs.DaysExact.{pads_long, length_padding}
 
 -- # The rules of a cycle, at a place
@@ -43,7 +44,7 @@ day_off_sound : (p : List Activity) (e since : ℕ) → IsLastDayOff p e → sin
 day_off_sound p e since h s ok d =
     let l : since < SINCE_LIMIT = grind (arith, nat_tests) in
     let t = h.there in
-    let i = h.inside in
+    let i = h.before in
     record {
       at = e - CA_DAY_OFF;
       after = omega arith;
@@ -57,8 +58,8 @@ day_off_complete p e since h s g =
     let a = r.after in
     let b = r.before in
     let t = h.there in
-    let i = h.inside in
-    let c = h.last (r.at + CA_DAY_OFF) (omega arith) b (λ k x y. rest_less p Drive k (r.rest k (omega arith) y)) in
+    let i = h.before in
+    let c = h.last (r.at + CA_DAY_OFF) (omega arith) (λ k x y. rest_less p Drive k (r.rest k (omega arith) y)) b in
     let l : since < SINCE_LIMIT = omega arith in
     grind (arith, nat_tests)
 
@@ -293,7 +294,7 @@ leads_fresh day cycle =
         capped = omega arith;
         days_counted = length-replicate (cycle_days cycle) 0;
         day_off = length ca_padding;
-        is_day_off = record { there = omega arith; inside = omega arith; rest = λ k a b. ends.rest k (omega arith) b; last = λ c a b g. b };
+        is_day_off = record { there = omega arith; before = omega arith; rest = λ k a b. ends.rest k (omega arith) b; last = λ c a g b. b };
         since_is = omega arith;
         without_is = λ two m. absurd (omega arith);
         without_none = λ m. refl;

@@ -242,7 +242,7 @@ pub record CoversOn (got : Option (CanadaDays × Option Mark)) (u : CanadaDays) 
   pub covers : DaysCover days u
 
 -- what a step of the begun days says
-days_on_cases : (s : CanadaDays) (x : Activity) (new : Bool) (date : ℤ) (u : CanadaDays) (m : Option Mark) → days_after s x new date ≡ Some (u, m) →
+pub days_on_cases : (s : CanadaDays) (x : Activity) (new : Bool) (date : ℤ) (u : CanadaDays) (m : Option Mark) → days_after s x new date ≡ Some (u, m) →
     ((rests x ≡ true) × (u ≡ days_rested (days_begun new s))) ⊎ ((rests x ≡ false) × (keeps_days (days_worked (days_begun new s)) ≡ true) × (u ≡ days_worked (days_begun new s)))
 days_on_cases s x new date u m h =
     let t : CanadaDays = days_begun new s in

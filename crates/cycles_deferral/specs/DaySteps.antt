@@ -213,12 +213,12 @@ pub record Stands (day : ℕ → ℕ) (p : List Activity) (s : CanadaDays) : Typ
   pub clock : IsClocked day p (day (length p - 1)) s
 
 -- the same where the next minute's day may have begun
-record Begun (day : ℕ → ℕ) (p : List Activity) (s u : CanadaDays) : Type 0 where
-  knows : Knows day p (day (length p)) u
-  clock : IsClocked day p (day (length p)) u
-  way : u.way ≡ s.way
+pub record Begun (day : ℕ → ℕ) (p : List Activity) (s u : CanadaDays) : Type 0 where
+  pub knows : Knows day p (day (length p)) u
+  pub clock : IsClocked day p (day (length p)) u
+  pub way : u.way ≡ s.way
 
-begun_days : (day : ℕ → ℕ) → AreDays day → (p : List Activity) (s : CanadaDays) → Stands day p s → Begun day p s (days_begun (begins day (length p)) s)
+pub begun_days : (day : ℕ → ℕ) → AreDays day → (p : List Activity) (s : CanadaDays) → Stands day p s → Begun day p s (days_begun (begins day (length p)) s)
 begun_days day days p s h =
     let n : ℕ = length p in
     let some = h.some in

@@ -14,3 +14,5 @@ pub mod CountryDays
 pub mod Room
 pub mod DayCovers
 pub mod CycleCovers
+pub mod BetterDays
+pub mod BetterCycle
