@@ -1,10 +1,8 @@
 -- Where one history is plainly better than another, its counts of a cycle may stand for those of the other.
-use Rattle.std.proofs.Common.{◌≡◌, ℕ, ◌+◌, ◌-◌, ◌<◌, ◌≤◌, ◌⊎◌, min, Bool, true, false, cond, List, length, refl, sym, ◌∙◌, ap, subst, arith, inl, inr, zero, suc}
-use Rattle.std.specs.Prelude.{if◌then◌else◌, replicate}
-use Rattle.std.proofs.lemmas.Bool.{cases_lt, cases_Bool}
+use Rattle.std.proofs.Common.{◌≡◌, ℕ, ◌+◌, ◌-◌, ◌<◌, ◌≤◌, ◌⊎◌, Bool, true, false, List, length, sym, ◌∙◌, ap, subst, arith, inl, inr, zero, suc}
+use Rattle.std.proofs.lemmas.Bool.{cases_lt}
 use Rattle.duty_core.specs.declared.activity.Activity.{Activity}
 use Rattle.duty_core.specs.declared.limits.TheConstants.{CA_CYCLE_2, CA_DAY_OFF}
-use Rattle.duty_core.specs.RestRun.{IsLongRun}
 use Rattle.duty_core.specs.RunLaws.{run_inside}
 use Rattle.duty_core.specs.Counting.{duty, IsLastEnd, CountsInDays, IsDaysBase}
 use Rattle.duty_core.specs.CountLaws.{count_none}
@@ -12,14 +10,13 @@ use Rattle.duty_core.specs.Activity.{works}
 use Rattle.duty_core.specs.CaCycle.{cycle_days, cycle_reset}
 use Rattle.duty_core.specs.PlainlyBetter.{AreDaysBetter, IsLastDayOff}
 use Rattle.day_sums.specs.Sums.{first_days, rolled, cleared}
-use Rattle.day_sums.specs.SumLaws.{first_none, first_rolled, first_cleared, rolled_cleared, length-rolled}
-use Rattle.day_sums.specs.Counted.{IsDutyOfDays, AreDaySums, IsTurn, turned, length-turned}
+use Rattle.day_sums.specs.SumLaws.{first_none, first_rolled, first_cleared, rolled_cleared}
+use Rattle.day_sums.specs.Counted.{IsDutyOfDays, AreDaySums, turned, length-turned}
 use Rattle.cycles_deferral.specs.declared.cycle.CycleCount.{CycleCount}
-use Rattle.cycles_deferral.specs.CycleMachine.{IsCycleCount}
 use Rattle.cycles_deferral.specs.Paths.{AreDays, begins}
 use Rattle.cycles_deferral.specs.Tracks.{days_up_to}
-use Rattle.cycles_deferral.specs.Counts.{HasWithout, Counts, is_turn, reset_long}
-use Rattle.cycles_deferral.specs.CycleCovers.{SumsNoMore, CycleCovers}
+use Rattle.cycles_deferral.specs.Counts.{HasWithout, Counts, is_turn}
+use Rattle.cycles_deferral.specs.CycleCovers.{CycleCovers}
 use Rattle.cycles_deferral.specs.BetterDays.{RestsLonger}
 
 -- # Duty, from the next minute's day on
@@ -130,7 +127,7 @@ sums_better day days p q a b h g e better (suc k) l =
       | inl short ↦ (
           let x : IsDutyNow day (suc k) (cycle_reset a.cycle) p (first_days (suc k) (turned new a.sums)) = sums_turned day days (cycle_reset a.cycle) p new a.sums (suc k) h.tracked.some (is_turn day days p h.tracked.some) (h.tracked.sums_are short) (omega arith) (omega arith) in
           let y : IsDutyNow day (suc k) reset q (first_days (suc k) (turned new b.sums)) = subst (λ i. IsDutyNow day (suc k) reset q (first_days (suc k) (turned (begins day i) b.sums))) (sym n)
-              (sums_turned day days reset q (begins day (length q)) b.sums (suc k) g.tracked.some (is_turn day days q g.tracked.some) (g.tracked.sums_are (omega arith)) (omega arith) l) in
+          (sums_turned day days reset q (begins day (length q)) b.sums (suc k) g.tracked.some (is_turn day days q g.tracked.some) (g.tracked.sums_are (omega arith)) (omega arith) l) in
           let u = x.count in
           let v = y.count in
           let m = better.sums (suc k) x.from y.from (omega arith) (omega arith) (subst (λ z. IsDaysBase day (suc k) z p (length p) x.from) same x.base) y.base in
@@ -138,8 +135,8 @@ sums_better day days p q a b h g e better (suc k) l =
     ]
 
 -- The counts of the better history may stand for those of the other.
-pub cycle_better : (day : ℕ → ℕ) → AreDays day → (p q : List Activity) (a b : CycleCount) → IsCycleCount a → Counts day p a → Counts day q b → a.cycle ≡ b.cycle → IsCycleBetter b.cycle day p q → CycleCovers (begins day (length p)) a b
-cycle_better day days p q a b kept h g e better =
+pub cycle_better : (day : ℕ → ℕ) → AreDays day → (p q : List Activity) (a b : CycleCount) → Counts day p a → Counts day q b → a.cycle ≡ b.cycle → IsCycleBetter b.cycle day p q → CycleCovers (begins day (length p)) a b
+cycle_better day days p q a b h g e better =
     let new : Bool = begins day (length p) in
     let r = better.run h.run g.run h.tracked.ends g.tracked.ends in
     let ca = h.capped in
@@ -158,7 +155,7 @@ cycle_better day days p q a b kept h g e better =
       same_days = omega arith;
       sums_no_more = λ n l. sums_better day days p q a b h g e better n (omega arith);
       since_no_more = omega arith;
-      without_no_more = elim kept.no_without [
+      without_no_more = elim h.no_without [
         | inr none ↦ omega arith
         | inl two ↦ elim (cases_lt h.run CA_DAY_OFF) [
           | inr long ↦ (let z = h.without_none long in omega arith)

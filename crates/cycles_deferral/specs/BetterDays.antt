@@ -1,14 +1,12 @@
 -- Where one history is plainly better than another, its days may stand for those of the other.
-use Rattle.std.proofs.Common.{◌≡◌, ℕ, ◌+◌, ◌-◌, ◌<◌, ◌≤◌, ◌⊎◌, min, Bool, true, false, cond, ◌&&◌, List, [], ◌∷◌, ◌++◌, length, refl, sym, ◌∙◌, ap, subst, arith, inl, inr, zero, suc}
-use Rattle.std.specs.Prelude.{nat_eq, nat_le, nat_lt, ℤ, Option, Some}
-use Rattle.std.proofs.lemmas.Bool.{cases_lt, cases_eq, cases_Bool}
+use Rattle.std.proofs.Common.{◌≡◌, ℕ, ◌+◌, ◌-◌, ◌<◌, ◌≤◌, ◌⊎◌, min, Bool, true, false, cond, ◌&&◌, List, [], ◌∷◌, length, refl, sym, ◌∙◌, ap, subst, arith, inl, inr, zero, suc}
+use Rattle.std.specs.Prelude.{nat_eq, nat_le, ℤ, Option, Some}
+use Rattle.std.proofs.lemmas.Bool.{cases_lt, cases_Bool}
 use Rattle.std.proofs.lemmas.Bool.Decides.{nat_tests}
 use Rattle.duty_core.specs.declared.activity.Activity.{Activity}
 use Rattle.duty_core.specs.declared.activity.Activity.TheVariants.{Serve}
 use Rattle.duty_core.specs.declared.mark.Mark.{Mark}
 use Rattle.duty_core.specs.declared.limits.TheConstants.{CA_BLOCK_LEAST, CA_LOST_LIMIT}
-use Rattle.duty_core.specs.Activity.{rests, works}
-use Rattle.duty_core.specs.History.{unit_at}
 use Rattle.duty_core.specs.Counting.{places}
 use Rattle.duty_core.specs.RunLaws.{EndsIn}
 use Rattle.duty_core.specs.LostMinutes.{rest_before, lost}
@@ -16,13 +14,13 @@ use Rattle.duty_core.specs.LostLaws.{before_rest, before_stops, before_there}
 use Rattle.duty_core.specs.PlainlyBetter.{IsLostBetter}
 use Rattle.cycles_deferral.specs.declared.days.TheConstants.{NEEDED_LIMIT}
 use Rattle.cycles_deferral.specs.declared.days.CanadaDays.{CanadaDays}
-use Rattle.cycles_deferral.specs.DayMachine.{days_after, days_begun, days_turned, days_worked, days_rested, minute_on}
+use Rattle.cycles_deferral.specs.DayMachine.{days_after, days_begun, minute_on}
 use Rattle.cycles_deferral.specs.Paths.{AreDays, begins, date_of, TakesDays}
-use Rattle.cycles_deferral.specs.LostSteps.{IsOpenRun, day_places}
+use Rattle.cycles_deferral.specs.LostSteps.{IsOpenRun}
 use Rattle.cycles_deferral.specs.Tracks.{Tracks, tracks_worked, days_up_to}
-use Rattle.cycles_deferral.specs.Knows.{HasRestSoFar, IsLongest, Knows}
+use Rattle.cycles_deferral.specs.Knows.{Knows}
 use Rattle.cycles_deferral.specs.DaySteps.{Stands, begun_days}
-use Rattle.cycles_deferral.specs.DayCovers.{LosesNoMore, MayDeferAsWell, DaysCover, days_on_cases}
+use Rattle.cycles_deferral.specs.DayCovers.{LosesNoMore, DaysCover, days_on_cases}
 
 -- # The run in progress
 

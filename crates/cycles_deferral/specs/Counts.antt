@@ -1,5 +1,5 @@
 -- What the counts of a cycle say of the history so far: p, behind its padding.
-use Rattle.std.proofs.Common.{◌≡◌, ℕ, ◌+◌, ◌-◌, ◌<◌, ◌≤◌, min, Bool, true, false, cond, not, List, [], ◌∷◌, ◌++◌, length, drop, refl, sym, ◌∙◌, ap, subst, arith, inl, inr}
+use Rattle.std.proofs.Common.{◌≡◌, ℕ, ◌+◌, ◌-◌, ◌<◌, ◌≤◌, ◌⊎◌, min, Bool, true, false, cond, not, List, [], ◌∷◌, ◌++◌, length, drop, refl, sym, ◌∙◌, ap, subst, arith, inl, inr}
 use Rattle.std.specs.Prelude.{count_by, nat_eq, nat_lt}
 use Rattle.std.proofs.lemmas.Bool.{cases_lt, cases_eq, cond-true, cond-false}
 use Rattle.std.proofs.lemmas.Bool.Decides.{nat_tests}
@@ -45,6 +45,7 @@ pub record Counts (day : ℕ → ℕ) (p : List Activity) (s : CycleCount) : Typ
   pub since_is : s.since ≡ min (length p - day_off) SINCE_LIMIT
   pub without_is : s.cycle ≡ CA_CYCLE_2 → run < CA_DAY_OFF → HasWithout p s.without
   pub without_none : CA_DAY_OFF ≤ run → s.without ≡ 0
+  pub no_without : (s.cycle ≡ CA_CYCLE_2) ⊎ (s.without ≡ 0)
 
 -- a reset is a day off, and a cycle has days
 pub reset_long : (cycle : ℕ) → CA_DAY_OFF ≤ cycle_reset cycle
@@ -250,6 +251,7 @@ counts_rested day days p x s r h =
             since_is = a ∙ (omega arith);
             without_is = λ two m. subst (HasWithout (p ++ x ∷ [])) (sym b) (without_at_rest p x s.without r (h.without_is two (omega arith)));
             without_none = λ m. absurd (omega arith);
+            no_without = elim h.no_without [ inl two ↦ inl two | inr none ↦ inr (b ∙ none) ];
           })
       | inr l ↦ (
           let f : CA_DAY_OFF ≤ s.rest + 1 = omega arith in
@@ -265,6 +267,7 @@ counts_rested day days p x s r h =
             since_is = a ∙ (omega arith);
             without_is = λ two m. absurd (omega arith);
             without_none = λ m. b;
+            no_without = inr b;
           })
     ]
 
@@ -291,4 +294,8 @@ counts_worked day days p x s r h =
         | inr l ↦ (let z = h.without_none l in subst (HasWithout (p ++ x ∷ [])) (let y : 1 ≡ min (s.without + 1) WITHOUT_LIMIT = omega arith in y) (without_anew p x h.run r l h.tracked.ends))
       ]);
       without_none = λ m. absurd (omega arith);
+      no_without = elim (cases_eq s.cycle CA_CYCLE_2) [
+        | inl two ↦ inl two
+        | inr other ↦ inr (cond-false (nat_eq s.cycle CA_CYCLE_2) (min (s.without + 1) WITHOUT_LIMIT) 0 (grind (arith, nat_tests)))
+      ];
     }

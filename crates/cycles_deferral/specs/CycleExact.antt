@@ -127,17 +127,21 @@ without_of day q t k z two = let long = reset_long t.cycle in let c = k.capped i
 none_without : (s : CycleCount) (new : Bool) → (s.cycle ≡ CA_CYCLE_2 → ⊥) → (cycle_worked s new).without ≡ 0
 none_without s new no_two = cond-false (nat_eq s.cycle CA_CYCLE_2) (min (s.without + 1) WITHOUT_LIMIT) 0 (grind (arith, nat_tests))
 
+-- the test of a minute of driving, of plain numbers
+driving_means : (since total limit without : ℕ) → (nat_lt since SINCE_LIMIT && (nat_le total limit && nat_le without CA_WITHOUT_DAY_OFF_LIMIT)) ≡ true →
+    (nat_lt since SINCE_LIMIT ≡ true) × (total ≤ limit) × (without ≤ CA_WITHOUT_DAY_OFF_LIMIT)
+driving_means since total limit without ok = (grind (arith, nat_tests), grind (arith, nat_tests), grind (arith, nat_tests))
+
 driving_sound : (day : ℕ → ℕ) → AreDays day → (p : List Activity) (s : CycleCount) → Counts day p s → (keeps_day_off s && keeps_cycle (cycle_worked s (begins day (length p)))) ≡ true → KeepsCycle s.cycle day (p ++ Drive ∷ []) (length p)
 driving_sound day days p s h ok =
     let t : CycleCount = cycle_worked s (begins day (length p)) in
     let k : Counts day (p ++ Drive ∷ []) t = counts_worked day days p Drive s refl h in
-    let a : nat_lt s.since SINCE_LIMIT ≡ true = grind (arith, nat_tests) in
-    let b : sum t.sums ≤ cycle_limit s.cycle = grind (arith, nat_tests) in
-    let c : t.without ≤ CA_WITHOUT_DAY_OFF_LIMIT = grind (arith, nat_tests) in
+    let m = driving_means s.since (sum t.sums) (cycle_limit s.cycle) t.without ok in
+    let b = m.1 in
     let w = has_sum day p Drive t k refl in (
-      day_off_sound p h.day_off s.since h.is_day_off h.since_is a,
+      day_off_sound p h.day_off s.since h.is_day_off h.since_is m.0,
       (λ d from e. let z = w.all from e in omega arith),
-      (λ two d from e. without_sound p Drive t.without (without_of day (p ++ Drive ∷ []) t k refl two) c from e),
+      (λ two d from e. without_sound p Drive t.without (without_of day (p ++ Drive ∷ []) t k refl two) m.2 from e),
     )
 
 both_true : (a b : Bool) → a ≡ true → b ≡ true → (a && b) ≡ true
@@ -298,6 +302,7 @@ leads_fresh day cycle =
         since_is = omega arith;
         without_is = λ two m. absurd (omega arith);
         without_none = λ m. refl;
+        no_without = inr refl;
       };
       same_cycle = refl;
       lawful = holds_padding (KeepsCycle cycle day) ca_pads (cycle_is_rule cycle day);

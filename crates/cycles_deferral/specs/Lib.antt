@@ -16,3 +16,4 @@ pub mod DayCovers
 pub mod CycleCovers
 pub mod BetterDays
 pub mod BetterCycle
+pub mod BetterLaws
