@@ -181,7 +181,7 @@ impl CanadaDays {
     }
 
     /// A new day begins.
-    fn turned(self) -> CanadaDays
+    pub(crate) fn turned(self) -> CanadaDays
         requires good { IsCanadaDays self }
         ensures days { result ≡ days_turned self }
         ensures kept { IsCanadaDays result }

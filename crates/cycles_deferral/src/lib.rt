@@ -2,6 +2,7 @@
 //! cycles with the day off in a fortnight (sections 24 to 28).
 #![tactic(auto)]
 
+mod covers;
 mod cycle;
 mod days;
 mod laws;
