@@ -1,6 +1,6 @@
 //! What the days and the counts of a cycle say of a history. The functions do nothing: their clauses
 //! are the laws.
-ghost use Rattle.std.specs.Prelude.{◌≡◌, ◌↔◌, ℕ, ◌≤◌, Bool, List, [], ◌++◌, length};
+ghost use Rattle.std.specs.Prelude.{true, ℤ, Option, Some, ◌≡◌, ◌↔◌, ℕ, ◌≤◌, Bool, List, [], ◌++◌, length};
 ghost use Rattle.duty_core.specs.declared.activity.Activity.{Activity};
 ghost use Rattle.duty_core.specs.declared.limits.TheConstants.{DAY_MINUTES, CA_LOST_LIMIT};
 ghost use Rattle.duty_core.specs.declared.mark.Mark.{Mark};
@@ -16,11 +16,14 @@ ghost use Rattle.duty_core.specs.Deferral.{IsDeferWay, MeetsCaOff10, MeetsCaDefe
 ghost use Rattle.duty_core.specs.Marks.{AreInOrder, IsDeferred};
 ghost use Rattle.cycles_deferral.specs.declared.days.CanadaDays.{CanadaDays};
 ghost use Rattle.cycles_deferral.specs.declared.cycle.CycleCount.{CycleCount};
-ghost use Rattle.cycles_deferral.specs.DayMachine.{fresh_days};
-ghost use Rattle.cycles_deferral.specs.CycleMachine.{HasRoom, fresh_cycle};
+ghost use Rattle.cycles_deferral.specs.DayMachine.{fresh_days, days_begun, days_after};
+ghost use Rattle.cycles_deferral.specs.CycleMachine.{IsCycleCount, HasRoom, fresh_cycle, cycle_after};
 ghost use Rattle.cycles_deferral.specs.Paths.{ca_pads, ca_padding, ca_padded, AreDays, begins, TakesDays, TakesCycle, AreDeferrals};
 ghost use Rattle.cycles_deferral.specs.DaySteps.{Stands};
 ghost use Rattle.cycles_deferral.specs.Counts.{Counts};
+ghost use Rattle.cycles_deferral.specs.DayCovers.{DaysCover, CoversOn};
+ghost use Rattle.cycles_deferral.specs.CycleCovers.{CycleCovers, CycleCoversOn};
+ghost use Rattle.duty_core.specs.Activity.{rests};
 
 use duty_core::Params;
 
@@ -74,3 +77,26 @@ pub fn cycle_has_one_path()
     ensures room { (day : ℕ → ℕ) → AreDays day → (cycle : ℕ) (h : List Activity) (t : CycleCount) →
         TakesCycle day (fresh_cycle cycle) ca_pads h t → (x : Activity) → HasRoom t x (begins day (length (ca_padding ++ h))) }
 {}
+
+/// Days that may stand for others do so again after each minute by the same activity, and rest may
+/// stand for any activity. So `covers` prunes safely.
+pub fn days_stand_on()
+    ensures same { (a : CanadaDays) → DaysCover a a }
+    ensures over { (a b c : CanadaDays) → DaysCover a b → DaysCover b c → DaysCover a c }
+    ensures begun { (new : Bool) (a b : CanadaDays) → DaysCover a b → DaysCover (days_begun new a) (days_begun new b) }
+    ensures steps { (a b u : CanadaDays) (x : Activity) (new : Bool) (date : ℤ) (m : Option Mark) →
+        DaysCover (days_begun new a) (days_begun new b) → days_after b x new date ≡ Some (u, m) → CoversOn (days_after a x new date) u }
+    ensures rest { (s u : CanadaDays) (x y : Activity) (new : Bool) (date : ℤ) (m : Option Mark) →
+        rests y ≡ true → days_after s x new date ≡ Some (u, m) → CoversOn (days_after s y new date) u }
+{
+}
+
+/// The same of the counts of a cycle.
+pub fn cycle_stands_on()
+    ensures same { (new : Bool) (a : CycleCount) → CycleCovers new a a }
+    ensures over { (new : Bool) (a b c : CycleCount) → CycleCovers new a b → CycleCovers new b c → CycleCovers new a c }
+    ensures steps { (a b u : CycleCount) (x : Activity) (new next : Bool) → CycleCovers new a b → cycle_after b x new ≡ Some u → CycleCoversOn next (cycle_after a x new) u }
+    ensures rest { (s u : CycleCount) (x y : Activity) (new next : Bool) → IsCycleCount s →
+        rests y ≡ true → cycle_after s x new ≡ Some u → CycleCoversOn next (cycle_after s y new) u }
+{
+}

@@ -8,8 +8,8 @@ ghost use Rattle.cycles_deferral.specs.CycleMachine.{IsCycleCount};
 use crate::cycle::CycleCount;
 use crate::days::{CanadaDays, DayCount};
 use crate::laws::{
-    book_days_are_days, cycle_has_one_path, cycle_is_exact, days_have_one_path,
-    deferred_days_are_exact, split_days_are_exact,
+    book_days_are_days, cycle_has_one_path, cycle_is_exact, cycle_stands_on, days_have_one_path,
+    days_stand_on, deferred_days_are_exact, split_days_are_exact,
 };
 use day_sums::DaySums;
 use duty_core::{Activity, DAY_MINUTES, Mark, Params, RestWay};
@@ -38,7 +38,9 @@ fn spent(days: CanadaDays, from: u32, act: Activity, n: u32) -> Option<(CanadaDa
 
 /// The days and the last mark behind a history that begins at midnight: rest and duty in turn, in
 /// minutes, rest first. `None` where it is refused, or is longer than a few days.
-fn lived(way: RestWay, parts: &[u32]) -> Option<(CanadaDays, Option<Mark>)> {
+fn lived(way: RestWay, parts: &[u32]) -> Option<(CanadaDays, Option<Mark>)>
+    ensures { IfSome result (λ r. IsCanadaDays r.0) }
+{
     let mut days = CanadaDays::fresh(way);
     let mut last = None;
     let mut at = 0;
@@ -176,6 +178,27 @@ fn has_room(sums: DaySums) -> bool
         Some(n) => *n < DAY_MINUTES,
         None => false,
     }
+}
+
+/// Whether the days of the first history may stand for those of the second.
+fn stands(parts: &[u32], others: &[u32], new_day: bool) -> Option<bool> {
+    let (days, _) = lived(RestWay::Defer, parts)?;
+    let (other, _) = lived(RestWay::Defer, others)?;
+    Some(days.covers(other, new_day))
+}
+
+#[test]
+fn days_with_less_lost_stand_for_others(rt: HostRuntime) {
+    let rested = [0, 400, 200];
+    let tired = [0, 600, 0];
+    assert_eq!(rt; stands(rested.as_slice(), tired.as_slice(), false), Some(true));
+    assert_eq!(rt; stands(rested.as_slice(), tired.as_slice(), true), Some(true));
+    assert_eq!(rt; stands(tired.as_slice(), rested.as_slice(), false), Some(false));
+    // A rest that may still be lost is no better than what is lost.
+    let short = [0, 580, 20];
+    let long = [0, 570, 30];
+    assert_eq!(rt; stands(long.as_slice(), short.as_slice(), false), Some(true));
+    assert_eq!(rt; stands(short.as_slice(), long.as_slice(), false), Some(false));
 }
 
 /// The counts of a cycle behind so many minutes of an activity, all in one day.
@@ -324,5 +347,7 @@ fn laws_are_stated(rt: HostRuntime) {
     days_have_one_path();
     cycle_is_exact();
     cycle_has_one_path();
+    days_stand_on();
+    cycle_stands_on();
     assert!(rt; CanadaDays::fresh(RestWay::Defer).reaches());
 }
