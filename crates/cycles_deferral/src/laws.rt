@@ -88,8 +88,7 @@ pub fn days_stand_on()
         DaysCover (days_begun new a) (days_begun new b) → days_after b x new date ≡ Some (u, m) → CoversOn (days_after a x new date) u }
     ensures rest { (s u : CanadaDays) (x y : Activity) (new : Bool) (date : ℤ) (m : Option Mark) →
         rests y ≡ true → days_after s x new date ≡ Some (u, m) → CoversOn (days_after s y new date) u }
-{
-}
+{}
 
 /// The same of the counts of a cycle.
 pub fn cycle_stands_on()
@@ -98,5 +97,4 @@ pub fn cycle_stands_on()
     ensures steps { (a b u : CycleCount) (x : Activity) (new next : Bool) → CycleCovers new a b → cycle_after b x new ≡ Some u → CycleCoversOn next (cycle_after a x new) u }
     ensures rest { (s u : CycleCount) (x y : Activity) (new next : Bool) → IsCycleCount s →
         rests y ≡ true → cycle_after s x new ≡ Some u → CycleCoversOn next (cycle_after s y new) u }
-{
-}
+{}

@@ -191,14 +191,29 @@ fn stands(parts: &[u32], others: &[u32], new_day: bool) -> Option<bool> {
 fn days_with_less_lost_stand_for_others(rt: HostRuntime) {
     let rested = [0, 400, 200];
     let tired = [0, 600, 0];
-    assert_eq!(rt; stands(rested.as_slice(), tired.as_slice(), false), Some(true));
-    assert_eq!(rt; stands(rested.as_slice(), tired.as_slice(), true), Some(true));
-    assert_eq!(rt; stands(tired.as_slice(), rested.as_slice(), false), Some(false));
+    assert_eq!(rt;
+        stands(rested.as_slice(), tired.as_slice(), false),
+        Some(true)
+    );
+    assert_eq!(rt;
+        stands(rested.as_slice(), tired.as_slice(), true),
+        Some(true)
+    );
+    assert_eq!(rt;
+        stands(tired.as_slice(), rested.as_slice(), false),
+        Some(false)
+    );
     // A rest that may still be lost is no better than what is lost.
     let short = [0, 580, 20];
     let long = [0, 570, 30];
-    assert_eq!(rt; stands(long.as_slice(), short.as_slice(), false), Some(true));
-    assert_eq!(rt; stands(short.as_slice(), long.as_slice(), false), Some(false));
+    assert_eq!(rt;
+        stands(long.as_slice(), short.as_slice(), false),
+        Some(true)
+    );
+    assert_eq!(rt;
+        stands(short.as_slice(), long.as_slice(), false),
+        Some(false)
+    );
 }
 
 /// The counts of a cycle behind so many minutes of an activity, all in one day.
