@@ -1,0 +1,5 @@
+use Rattle.cycles_deferral.specs.CountryDays.{are_days}
+use Rattle.cycles_deferral.proofs.laws.book_days_are_days.Goals as goal
+
+pub returns : goal.returns
+returns c = are_days

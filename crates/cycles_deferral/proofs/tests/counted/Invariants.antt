@@ -1,0 +1,5 @@
+use Rattle.cycles_deferral.specs.CycleMachine.{IsCycleCount}
+use Rattle.cycles_deferral.proofs.tests.counted.Given as goal
+
+abbrev pub invariant-loop : goal.invariant-loop
+invariant-loop l = IsCycleCount l.after
