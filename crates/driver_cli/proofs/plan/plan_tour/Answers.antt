@@ -15,5 +15,5 @@ returns c =
     let tour = c.args.tour.now in
     let log = c.args.log.now in
     subst (λ p. IfOk c.plan_by.result (IsPlannedBy tour log
-        (problem_of tour (λ s at x n. us_advances (has_berth p) (week_days p) (day_start p) s at x n) (λ a b at. us_covers (has_berth p) (week_days p) (day_start p) a b at) (λ s. us_idles (has_berth p) s))
-        (IsLogState tour log (root_state (week_days p)) (λ s at x. us_nexts (has_berth p) (week_days p) (day_start p) s at x)) c.args.budget)) c.requires.book c.plan_by.ensures.planned
+    (problem_of tour (λ s at x n. us_advances (has_berth p) (week_days p) (day_start p) s at x n) (λ a b at. us_covers (has_berth p) (week_days p) (day_start p) a b at) (λ s. us_idles (has_berth p) s))
+    (IsLogState tour log (root_state (week_days p)) (λ s at x. us_nexts (has_berth p) (week_days p) (day_start p) s at x)) c.args.budget)) c.requires.book c.plan_by.ensures.planned
