@@ -47,7 +47,7 @@ fn first_label<B: RuleBook>(book: &B, tour: &Tour) -> Result<Label<B::State>, No
     })
 }
 
-/// Checks the successors of the first label: the first by driving, the second by rest.
+/// Checks the successors of the first label: two, by driving and by rest.
 fn grows_by_driving_and_by_rest<B: RuleBook>(
     rt: &impl Abort,
     alloc: Global,
@@ -60,7 +60,7 @@ fn grows_by_driving_and_by_rest<B: RuleBook>(
     let label = first_label(book, tour)?;
     let growths = successors(alloc, book, tour, &label, 0)?;
     let grown = growths.items();
-    assert!(rt; grown.len() >= 2);
+    assert_eq!(rt; grown.len(), 2);
     assert_eq!(rt; grown[0].act, Activity::Drive);
     assert_eq!(rt; grown[0].label.depart, Some(0));
     assert_eq!(rt; grown[0].label.progress, 1);
