@@ -58,12 +58,12 @@ led_tracks berth days day_start first G T ok go d (x ∷ xs) p c at e t =
     (led_tracks berth days day_start first G T ok go d xs (p ++ x ∷ []) (go c at x) (at + 1) (omega (arith, length-one_more p x)) (d.on p c at x (behind_us berth days day_start first p at e) t))
 
 -- what a state that a history reaches tells of the history and its marks
-record TellsOf (berth : Bool) (days day_start first : ℕ) (h : List Activity) (marks : List Mark) (s : UsState) : Type 0 where
-  split : Tracks US (padding (UsProperty berth days day_start) ++ h) (IsSplitAt (UsProperty berth days day_start) first marks) s.split
-  rest_break : TracksBreak (padding (UsProperty berth days day_start) ++ h) s.rest_break
-  week : TracksWeek days day_start first (padding (UsProperty berth days day_start) ++ h) s.week
+pub record TellsOf (berth : Bool) (days day_start first : ℕ) (h : List Activity) (marks : List Mark) (s : UsState) : Type 0 where
+  pub split : Tracks US (padding (UsProperty berth days day_start) ++ h) (IsSplitAt (UsProperty berth days day_start) first marks) s.split
+  pub rest_break : TracksBreak (padding (UsProperty berth days day_start) ++ h) s.rest_break
+  pub week : TracksWeek days day_start first (padding (UsProperty berth days day_start) ++ h) s.week
 
-tells : (berth : Bool) (days day_start first : ℕ) (h : List Activity) (marks : List Mark) (s : UsState) → 0 < days → IsTimed (UsProperty berth days day_start) first h →
+pub tells : (berth : Bool) (days day_start first : ℕ) (h : List Activity) (marks : List Mark) (s : UsState) → 0 < days → IsTimed (UsProperty berth days day_start) first h →
     UsReaches berth days day_start (root_state days) first h marks s → TellsOf berth days day_start first h marks s
 tells berth days day_start first h marks s some timed r =
     let params = UsProperty berth days day_start in

@@ -14,3 +14,4 @@ pub mod Numbers
 pub mod NumberLaws
 pub mod Single
 pub mod Ends
+pub mod Ahead

@@ -10,6 +10,16 @@ use duty_core::{Activity, US_BREAK, US_RESTART, US_UNBROKEN_LIMIT, is_rest};
 use sleeper_split::SplitCount;
 
 /// What the book remembers of a history.
+///
+/// Which states there are at a minute is told by `IsUsState`. In minutes, and in this order, a
+/// state's numbers are: of the rest run in progress its length, the time in the berth that it ends
+/// with and its longest consecutive time there; the driving, the duty and the time passed since the
+/// base; the same since the last full or split rest; the length of the split rest that waits, which
+/// is shorter than a full rest, and its longest consecutive time in the berth, or 0 and 0; the time
+/// without driving, at most a break, and the driving since the break, at most eight hours; the rest
+/// of the week, at most a restart; and the duty of each day of the week from the youngest on, at
+/// most a day's minutes, and of the youngest no more than its minutes so far. A split rest waits
+/// only where there is a berth. Other counts are at most 999,999, where they stay.
 #[derive(Clone, Copy)]
 pub struct UsState {
     /// The counts of full rests, split rests and pairs.
