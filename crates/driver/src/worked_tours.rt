@@ -51,7 +51,10 @@ fn named(
 /// Whether the text tells a shortest schedule of this duration that departs between these times.
 fn tells(sent: &[u8], duration: &str, least: &str, most: &str) -> bool {
     let head = "shortest ".len() + duration.len() + " from ".len();
-    if !sent.starts_with("shortest ".as_bytes()) || sent.len() < head + least.len() {
+    if !sent.starts_with("shortest ".as_bytes()) || sent.len() < head {
+        return false;
+    }
+    if sent.len() - head < least.len() {
         return false;
     }
     let departs = &sent[head..head + least.len()];
