@@ -129,6 +129,15 @@ pub trait RuleBook {
     fn ahead(&self, state: &Self::State) -> bool
         ensures { result ≡ ahead_of self.now state.now };
 
+    /// An estimate of the least minutes of rest that are still owed, from the state on, before
+    /// `driving` more minutes of driving and `other` more minutes of other duty are done.
+    ///
+    /// A search orders what it tries first by it, and nothing that it answers rests on it: a book
+    /// that says nothing answers 0.
+    fn least_rest(&self, _state: &Self::State, _driving: u32, _other: u32) -> u32 {
+        0
+    }
+
     /// Puts the state's numbers at the minute `at` behind the others. Where there is no memory for
     /// them, the others stay as they were.
     fn write_state(
