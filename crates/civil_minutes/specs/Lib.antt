@@ -1,3 +1,5 @@
 pub mod Day
 pub mod Time
 pub mod Fields
+pub mod TimeOf
+pub mod TimeOfLaws

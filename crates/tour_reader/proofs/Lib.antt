@@ -1,4 +1,3 @@
-pub mod TimeFacts
 pub mod FormFacts
 pub mod Lists
 pub mod StopFacts

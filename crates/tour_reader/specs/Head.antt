@@ -18,7 +18,8 @@ use Rattle.tour_reader.specs.declared.fault.TourFault.TheVariants.{Missing}
 use Rattle.tour_reader.specs.Fields.{key, fields_of, with_fields}
 use Rattle.tour_reader.specs.Gives.{◌>>=◌, good}
 use Rattle.tour_reader.specs.Values.{number_of, whole_of, text_of, within}
-use Rattle.tour_reader.specs.Times.{time_of, clock_of}
+use Rattle.civil_minutes.specs.TimeOf.{time_of}
+use Rattle.tour_reader.specs.Times.{clock_of}
 
 -- ---- the book
 

@@ -2,7 +2,6 @@ pub mod Fields
 pub mod Gives
 pub mod Values
 pub mod Times
-pub mod TimeLaws
 pub mod Head
 pub mod Written
 pub mod Checks

@@ -13,7 +13,7 @@ use Rattle.tour_reader.specs.declared.fault.TourFault.TheVariants.{BadValue, NoS
 use Rattle.tour_reader.specs.Fields.{with_fields}
 use Rattle.tour_reader.specs.Gives.{◌>>=◌, good}
 use Rattle.tour_reader.specs.Values.{whole_of, text_of, array_of, items_of}
-use Rattle.tour_reader.specs.Times.{time_of}
+use Rattle.civil_minutes.specs.TimeOf.{time_of}
 
 -- ---- the name
 

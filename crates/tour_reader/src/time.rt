@@ -1,6 +1,7 @@
 //! Times and times of day.
 ghost use Rattle.std.specs.Prelude.{◌≡◌};
-ghost use Rattle.tour_reader.specs.Times.{time_of, pair_of, clock_of};
+ghost use Rattle.civil_minutes.specs.TimeOf.{time_of};
+ghost use Rattle.tour_reader.specs.Times.{pair_of, clock_of};
 
 use civil_minutes::read_minute;
 use duty_core::Minute;

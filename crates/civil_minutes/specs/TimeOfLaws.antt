@@ -1,12 +1,14 @@
 -- The function of times says what the text of a time is: exactly these texts have a minute, and it is their civil minute.
-use Rattle.std.proofs.Common.{◌≡◌, ℕ, ◌+◌, ◌-◌, ◌*◌, ◌/◌, ◌%◌, ◌<◌, ◌≤◌, ◌↔◌, ◌&&◌, Bool, true, false, cond, nat_le, nat_lt, ℤ, pos, negsuc, List, Option, Some, None, refl, sym, ap, ◌∙◌, arith}
+use Rattle.std.proofs.Common.{◌≡◌, ℕ, ◌+◌, ◌-◌, ◌*◌, ◌/◌, ◌%◌, ◌<◌, ◌≤◌, ◌↔◌, ◌&&◌, Bool, true, false, cond, nat_le, nat_lt, ℤ, pos, negsuc, List, Option, Some, None, Result, Ok, Err, IfOk, IfErr, refl, sym, ap, ◌∙◌, arith}
+use Rattle.std.specs.Result.{result_ok}
 use Rattle.std.specs.Str.{bytes_eq}
 use Rattle.std.proofs.lemmas.Slice.Eq.{bytes_eq-Decides}
 use Rattle.std.proofs.lemmas.Bool.Decides.{nat_tests}
 use Rattle.std.proofs.lemmas.Int.{ints}
 use Rattle.jiff_core.specs.Calendar.{days_in_month}
-use Rattle.civil_minutes.specs.Time.{IsTime, IsTimeText, time_text, minutes_until}
-use Rattle.tour_reader.specs.Times.{digits_at, is_time, natural, time_from, time_of}
+use Rattle.civil_minutes.specs.declared.read.BadTime.{BadTime}
+use Rattle.civil_minutes.specs.Time.{IsTime, IsTimeText, IsBadFrom, time_text, minutes_until}
+use Rattle.civil_minutes.specs.TimeOf.{digits_at, is_time, natural, time_from, time_of}
 
 -- two tests that both pass
 both : (a b : Bool) → a ≡ true → b ≡ true → (a && b) ≡ true
@@ -131,3 +133,13 @@ text_of_time text at is = to_parts text (2000 + digits_at text 2) (digits_at tex
 -- exactly the texts of times have a minute, and it is their civil minute
 pub time_of-exact : (text : List ℕ) (at : ℕ) → (time_of text ≡ Some at) ↔ IsTimeText text at
 time_of-exact text at = (text_of_time text at, time_of_text text at)
+
+-- what has no value is none
+none_of : (o : Option ℕ) → ((n : ℕ) → o ≡ Some n → ⊥) → None ≡ o
+none_of None not = refl
+none_of (Some n) not = absurd (not n refl)
+
+-- the minute that was read, or none
+pub read_time : (text : List ℕ) (r : Result ℕ BadTime) → IfOk r (IsTimeText text) → IfErr r (λ bad. IsBadFrom text bad.place) → result_ok r ≡ time_of text
+read_time text (Ok at) time bad = sym (time_of_text text at time)
+read_time text (Err e) time bad = none_of (time_of text) (λ at is. bad.none at (text_of_time text at is))
