@@ -4,6 +4,7 @@
 
 mod label;
 mod laws;
+mod lengths;
 mod limits;
 mod piece;
 mod schedule;
@@ -15,6 +16,7 @@ mod window;
 
 pub use label::Label;
 pub use laws::{ends_by_steps, serves_by_steps};
+pub use lengths::{duration, progresses};
 pub use limits::{
     EARLIEST_START, FEWEST_DAYS, FEWEST_STOPS, GRIDS, HVNL_GRIDS, LATEST_START, LONGEST_NAME,
     LONGEST_TOUR, MOST_CYCLE, MOST_DAYS, MOST_DRIVE, MOST_SERVICE, MOST_STOPS, MOST_WINDOWS,
