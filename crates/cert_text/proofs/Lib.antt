@@ -1,0 +1,13 @@
+pub mod Loop
+pub mod TimeRead
+pub mod NumbersLoop
+pub mod Puts
+pub mod ReadOnce
+pub mod Fits
+pub mod SpelledOnce
+pub mod Lines
+pub mod Readers
+pub mod Within
+pub mod MinuteTexts
+pub mod LineReaders
+pub mod FirstBad

@@ -10,3 +10,13 @@ pub mod ProblemOf
 pub mod UnitLaws
 pub mod SolutionLaws
 pub mod ContinuationLaws
+pub mod Form
+pub mod Spelling
+pub mod BadLine
+pub mod Reading
+pub mod WordLaws
+pub mod ItemLaws
+pub mod RunLaws
+pub mod MarkTextLaws
+pub mod LayerLaws
+pub mod CertTextLaws
