@@ -1,17 +1,15 @@
 -- Many equal units: only the first of them may choose a mark, so that a state has one successor by each later one at most.
-use Rattle.std.proofs.Common.{◌≡◌, ℕ, ◌+◌, ◌-◌, ◌<◌, ◌≤◌, Bool, true, false, cond, List, [], ◌∷◌, ◌++◌, length, refl, sym, ◌∙◌, ap, subst, arith, append-nil, ◌⊎◌, inl, inr, zero, suc}
-use Rattle.std.specs.Prelude.{Option, None, Some, map, flat_map, replicate, Contains, nat_eq, ◌&&◌, if◌then◌else◌}
+use Rattle.std.proofs.Common.{◌≡◌, ℕ, ◌+◌, ◌-◌, Bool, true, false, cond, List, [], ◌∷◌, ◌++◌, refl, sym, ◌∙◌, ap, subst, arith, append-nil, ◌⊎◌, inl, inr, zero, suc}
+use Rattle.std.specs.Prelude.{Option, None, Some, map, replicate, nat_eq, ◌&&◌, if◌then◌else◌}
 use Rattle.std.specs.Option.{option_to_list}
-use Rattle.std.proofs.lemmas.Bool.{cases_Bool}
 use Rattle.std.proofs.lemmas.Bool.Decides.{nat_tests}
 use Rattle.duty_core.specs.declared.activity.Activity.{Activity}
 use Rattle.duty_core.specs.declared.mark.Mark.{Mark}
 use Rattle.duty_core.specs.Activity.{rests, drives}
 use Rattle.rule_core.specs.declared.nexts.Next.{Next}
-use Rattle.rule_core.specs.Reach.{IsOneOf, Reaches}
+use Rattle.rule_core.specs.Reach.{IsOneOf}
 use Rattle.rule_core.specs.OneOf.{one_of-flat_map, one_of_flat_map}
 use Rattle.sleeper_split.specs.declared.rule.TheConstants.SplitRule.{US}
-use Rattle.sleeper_split.specs.declared.count.SplitCount.{SplitCount}
 use Rattle.sleeper_split.specs.Machine.{after_rest, after_duty, run_of}
 use Rattle.sleeper_split.specs.Choices.{Choice, choice, choices, sleeps, at_duty, run_choices}
 use Rattle.us_rules.specs.declared.state.UsState.{UsState}
@@ -100,7 +98,7 @@ steady_path berth days day_start (suc n) s at x marks u h r = elim (steady_nexts
       )
 ]
 
-marked_means : (mark : Option Mark) (o : Option UsState) (t : Next UsState) → IsOneOf (marked_next mark o) t → (o ≡ Some t.state) × (mark ≡ t.mark)
+pub marked_means : (mark : Option Mark) (o : Option UsState) (t : Next UsState) → IsOneOf (marked_next mark o) t → (o ≡ Some t.state) × (mark ≡ t.mark)
 marked_means mark None t h = absurd h
 marked_means mark (Some s) t h = elim h [ inl e ↦ (ap (λ n. Some n.state) e, ap (λ n. n.mark) e) | inr z ↦ absurd z ]
 

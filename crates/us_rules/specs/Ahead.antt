@@ -1,5 +1,5 @@
 -- Where resting in place of anything else is safe, told of histories.
-use Rattle.std.proofs.Common.{◌≡◌, ◌↔◌, ℕ, ◌+◌, ◌-◌, ◌*◌, ◌<◌, ◌≤◌, Bool, true, List, ◌++◌, length, refl, sym, ◌∙◌, ap, subst, arith, false, ◌⊎◌, inl, inr}
+use Rattle.std.proofs.Common.{◌≡◌, ◌↔◌, ℕ, ◌-◌, ◌<◌, Bool, true, List, ◌++◌, length, refl, sym, ◌∙◌, subst, arith, false, ◌⊎◌, inl, inr}
 use Rattle.std.specs.Prelude.{None, Some}
 use Rattle.std.proofs.lemmas.Bool.{cases_lt}
 use Rattle.duty_core.specs.declared.activity.Activity.{Activity}
@@ -20,7 +20,7 @@ use Rattle.sleeper_split.specs.BetterLaws.{berth_exact}
 use Rattle.us_rules.specs.declared.state.UsState.{UsState}
 use Rattle.us_rules.specs.Machine.{root_state, us_ahead}
 use Rattle.us_rules.specs.Paths.{UsReaches}
-use Rattle.us_rules.specs.Better.{TellsOf, tells}
+use Rattle.us_rules.specs.Better.{tells}
 
 -- The history ends with a run of rest, maybe of no length, that is all in the berth.
 abbrev pub EndsInBerth : List Activity → Type 0

@@ -1,35 +1,31 @@
 -- A state that a history reaches covers each state that a history reaches which is plainly worse.
-use Rattle.std.proofs.Common.{◌≡◌, ◌↔◌, ℕ, ◌+◌, ◌-◌, ◌*◌, ◌<◌, ◌≤◌, Bool, true, false, List, [], ◌∷◌, ◌++◌, length, take, drop, refl, sym, ◌∙◌, ap, subst, arith, append_assoc, append-nil, length-append, ◌⊎◌, inl, inr, min, zero, suc}
-use Rattle.std.specs.Prelude.{Contains, count_by, map, replicate}
+use Rattle.std.proofs.Common.{◌≡◌, ℕ, ◌+◌, ◌-◌, ◌*◌, ◌<◌, ◌≤◌, Bool, true, List, [], ◌∷◌, ◌++◌, length, drop, sym, ◌∙◌, ap, subst, arith, append_assoc, append-nil, length-append, inl, inr, zero, suc}
+use Rattle.std.specs.Prelude.{Contains, count_by, replicate}
 use Rattle.std.proofs.lemmas.Bool.{cases_lt}
 use Rattle.std.proofs.lemmas.List.{take_all}
 use Rattle.duty_core.specs.declared.activity.Activity.{Activity}
 use Rattle.duty_core.specs.declared.mark.Mark.{Mark}
 use Rattle.duty_core.specs.declared.params.Params.TheVariants.{UsProperty}
-use Rattle.duty_core.specs.declared.limits.TheConstants.{US_FULL_REST, US_RESTART, US_BREAK, PADDING_MINUTES}
+use Rattle.duty_core.specs.declared.limits.TheConstants.{US_RESTART, US_BREAK, PADDING_MINUTES}
 use Rattle.duty_core.specs.Activity.{drives}
-use Rattle.duty_core.specs.History.{pad_units, padding, padded, IsTimed}
+use Rattle.duty_core.specs.History.{pad_units, padding, IsTimed}
 use Rattle.duty_core.specs.HistoryLaws.{length-one_more}
 use Rattle.duty_core.specs.RunLaws.{EndsIn}
 use Rattle.duty_core.specs.Stretch.{IsStill}
-use Rattle.duty_core.specs.Counting.{driving, duty, IsDaysBase}
-use Rattle.duty_core.specs.Day.{day_number}
+use Rattle.duty_core.specs.Counting.{driving}
 use Rattle.duty_core.specs.Marks.{IsSplitAt}
 use Rattle.duty_core.specs.UsRules.{IsLastBreak, us_week_limit}
-use Rattle.duty_core.specs.RuleBooks.{KeepsAll}
-use Rattle.duty_core.specs.PlainlyBetter.{IsRunBetter, AreDaysBetter, IsUsBetter, IsPlainlyBetter}
+use Rattle.duty_core.specs.PlainlyBetter.{AreDaysBetter, IsUsBetter, IsPlainlyBetter}
 use Rattle.rule_core.specs.Guard.{IsGuard}
 use Rattle.rule_core.specs.ReachLaws.{reached_state}
-use Rattle.day_sums.specs.Sums.{first_days, cleared, LeavesNoLess}
+use Rattle.day_sums.specs.Sums.{LeavesNoLess}
 use Rattle.day_sums.specs.SumLaws.{first_none}
 use Rattle.day_sums.specs.LeftLaws.{leaves_cleared, turned_none}
-use Rattle.day_sums.specs.Counted.{TracksDays, IsTurn, turned}
-use Rattle.day_sums.specs.Now.{IsDutyNow, duty_now}
+use Rattle.day_sums.specs.Counted.{turned}
+use Rattle.day_sums.specs.Now.{duty_now}
 use Rattle.sleeper_split.specs.declared.rule.TheConstants.SplitRule.{US}
-use Rattle.sleeper_split.specs.declared.count.SplitCount.{SplitCount}
 use Rattle.sleeper_split.specs.Machine.{fresh_count}
 use Rattle.sleeper_split.specs.Choices.{Declares}
-use Rattle.sleeper_split.specs.Covers.{IsCountOf, Covers}
 use Rattle.sleeper_split.specs.Tracks.{Tracks}
 use Rattle.sleeper_split.specs.MarkedTracks.{tracks_marked}
 use Rattle.sleeper_split.specs.BetterLaws.{better_covers}
@@ -39,10 +35,10 @@ use Rattle.us_rules.specs.declared.state.BreakCount.{BreakCount}
 use Rattle.us_rules.specs.declared.state.WeekCount.{WeekCount}
 use Rattle.us_rules.specs.declared.state.UsState.{UsState}
 use Rattle.us_rules.specs.Machine.{us_fits, break_made, break_after, break_ok, week_made, begins_day, week_after, week_ok, us_nexts, root_state, IsUsState, us_covers}
-use Rattle.us_rules.specs.Padding.{us_pads, length_padding, us_behind, behind_us}
-use Rattle.us_rules.specs.BreakGuard.{EndsStill, HasBreak, TracksBreak, break_is_guard, tracks_break_root}
+use Rattle.us_rules.specs.Padding.{us_pads, length_padding, behind_us}
+use Rattle.us_rules.specs.BreakGuard.{EndsStill, TracksBreak, break_is_guard, tracks_break_root}
 use Rattle.us_rules.specs.WeekGuard.{us_day, TracksWeek, week_is_guard, tracks_week_root, day_on, turn}
-use Rattle.us_rules.specs.Paths.{mark_at, led, UsReaches, IsUsPath}
+use Rattle.us_rules.specs.Paths.{led, UsReaches}
 use Rattle.us_rules.specs.Covers.{BreakCovers, WeekCovers, us_covers_decides}
 use Rattle.us_rules.specs.States.{root_is_us_state, next_is_us_state}
 use Rattle.us_rules.specs.Exact.{AreSame, same_marks, us_holds, short_history, starts_have, root_path}

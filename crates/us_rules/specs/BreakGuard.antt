@@ -1,17 +1,17 @@
 -- The counts of breaks from driving mean the rule of eight hours.
-use Rattle.std.proofs.Common.{◌≡◌, ℕ, ◌+◌, ◌-◌, ◌<◌, ◌≤◌, Bool, true, false, List, [], ◌∷◌, ◌++◌, length, take, drop, zero, suc, refl, sym, ◌∙◌, ap, subst, cond, arith, zero-add, ◌⊎◌, inl, inr}
-use Rattle.std.specs.Prelude.{count_by, replicate}
+use Rattle.std.proofs.Common.{◌≡◌, ℕ, ◌+◌, ◌<◌, ◌≤◌, Bool, true, false, List, [], ◌∷◌, ◌++◌, length, drop, zero, suc, refl, sym, ◌∙◌, ap, subst, cond, arith, zero-add, ◌⊎◌, inl, inr}
+use Rattle.std.specs.Prelude.{count_by}
 use Rattle.std.proofs.Math.Seq.{drop-length}
 use Rattle.std.proofs.lemmas.Bool.{cases_lt}
 use Rattle.std.proofs.lemmas.Bool.Decides.{nat_tests}
-use Rattle.std.proofs.lemmas.List.{take_all, length-replicate, drop-append-le}
+use Rattle.std.proofs.lemmas.List.{take_all, drop-append-le}
 use Rattle.std.proofs.lemmas.List.Sums.{sum_by-append}
 use Rattle.duty_core.specs.declared.activity.Activity.{Activity}
 use Rattle.duty_core.specs.declared.activity.Activity.TheVariants.{Drive, Serve, Wait, Off, Berth}
 use Rattle.duty_core.specs.declared.params.Params.TheVariants.{UsProperty}
-use Rattle.duty_core.specs.declared.limits.TheConstants.{US_BREAK, US_UNBROKEN_LIMIT, PADDING_MINUTES}
+use Rattle.duty_core.specs.declared.limits.TheConstants.{US_BREAK, US_UNBROKEN_LIMIT}
 use Rattle.duty_core.specs.Activity.{drives}
-use Rattle.duty_core.specs.History.{unit_at, between, padding}
+use Rattle.duty_core.specs.History.{unit_at, padding}
 use Rattle.duty_core.specs.HistoryLaws.{unit_at-append, unit_at-last, unit_at-replicate, length-one_more}
 use Rattle.duty_core.specs.Counting.{driving}
 use Rattle.duty_core.specs.UsRules.{IsBreak, IsLastBreak, MeetsUsBreak8}
@@ -20,7 +20,7 @@ use Rattle.duty_core.specs.RuleLaws.{us_break8_is_rule}
 use Rattle.rule_core.specs.Guard.{IsGuard}
 use Rattle.us_rules.specs.declared.state.BreakCount.{BreakCount}
 use Rattle.us_rules.specs.Machine.{break_made, paused, break_after, break_ok}
-use Rattle.us_rules.specs.Padding.{us_pads, length_padding}
+use Rattle.us_rules.specs.Padding.{length_padding}
 
 -- the last n units hold no driving
 abbrev pub EndsStill : List Activity → ℕ → Type 0

@@ -1,21 +1,19 @@
 -- Which state may stand for which, whatever comes next: the relation, its order, and why it lasts.
-use Rattle.std.proofs.Common.{◌≡◌, ◌↔◌, ℕ, ◌+◌, ◌-◌, ◌*◌, ◌<◌, ◌≤◌, Bool, true, false, cond, List, [], ◌∷◌, ◌++◌, length, refl, sym, ◌∙◌, ap, subst, arith, ◌⊎◌, inl, inr, min}
-use Rattle.std.specs.Prelude.{Option, None, Some, sum, nat_le, nat_lt, ◌&&◌, Contains}
-use Rattle.std.proofs.lemmas.Bool.{cases_lt, cases_Bool}
+use Rattle.std.proofs.Common.{◌≡◌, ◌↔◌, ℕ, ◌+◌, ◌-◌, ◌<◌, ◌≤◌, Bool, true, List, length, refl, sym, ◌∙◌, ap, subst, arith, ◌⊎◌, inl, inr}
+use Rattle.std.specs.Prelude.{sum, nat_le, nat_lt, ◌&&◌}
+use Rattle.std.proofs.lemmas.Bool.{cases_lt}
 use Rattle.std.proofs.lemmas.Bool.Decides.{nat_tests}
 use Rattle.std.proofs.lemmas.List.{take_all}
 use Rattle.duty_core.specs.declared.activity.Activity.{Activity}
 use Rattle.duty_core.specs.declared.activity.Activity.TheVariants.{Drive, Serve, Wait, Off, Berth}
-use Rattle.duty_core.specs.declared.params.Params.TheVariants.{UsProperty}
 use Rattle.duty_core.specs.declared.limits.TheConstants.{US_BREAK, US_UNBROKEN_LIMIT, US_RESTART}
-use Rattle.duty_core.specs.Activity.{rests, drives}
 use Rattle.duty_core.specs.UsRules.{us_week_limit}
-use Rattle.day_sums.specs.Sums.{first_days, added, rolled, cleared, LeavesNoLess, leaves_no_less}
+use Rattle.day_sums.specs.Sums.{first_days, added, cleared, LeavesNoLess, leaves_no_less}
 use Rattle.day_sums.specs.SumLaws.{length-added, first_added, cleared_twice}
 use Rattle.day_sums.specs.LeftLaws.{leaves_decides, leaves_same, leaves_over, leaves_cleared, leaves_turned, leaves_added, leaves_more, turned_none}
 use Rattle.day_sums.specs.Counted.{turned, after_rest, length-turned}
 use Rattle.sleeper_split.specs.declared.rule.TheConstants.SplitRule.{US}
-use Rattle.sleeper_split.specs.Covers.{Covers, covers_count, own_rest}
+use Rattle.sleeper_split.specs.Covers.{Covers, covers_count}
 use Rattle.sleeper_split.specs.CoverLaws.{covers_same, covers_over}
 use Rattle.sleeper_split.specs.CoverTests.{covers_decides}
 use Rattle.sleeper_split.specs.BetterLaws.{us_pair_rule}
@@ -24,7 +22,6 @@ use Rattle.us_rules.specs.declared.state.WeekCount.{WeekCount}
 use Rattle.us_rules.specs.declared.state.UsState.{UsState}
 use Rattle.us_rules.specs.Machine.{break_made, paused, break_after, break_ok, week_made, begins_day, week_rested, week_after, week_ok, IsUsState, break_covers, week_covers, us_covers}
 use Rattle.us_rules.specs.BreakGuard.{paused_cases}
-use Rattle.us_rules.specs.WeekGuard.{length-after_rest}
 use Rattle.us_rules.specs.Paths.{both_true, true_both}
 
 -- # The relation

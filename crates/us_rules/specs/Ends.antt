@@ -1,6 +1,6 @@
 -- How the run in progress may end at a unit, as the counts after that unit; and the successors by these.
-use Rattle.std.proofs.Common.{◌≡◌, ℕ, ◌+◌, ◌-◌, Bool, true, false, cond, List, [], ◌∷◌, ◌++◌, refl, sym, ◌∙◌, ap, append-nil, inl}
-use Rattle.std.specs.Prelude.{Option, None, Some, map, flat_map, nat_eq, ◌&&◌, if◌then◌else◌, IfSome}
+use Rattle.std.proofs.Common.{◌≡◌, ℕ, ◌-◌, Bool, true, false, cond, List, [], ◌∷◌, ◌++◌, refl, sym, ◌∙◌, ap, append-nil, inl}
+use Rattle.std.specs.Prelude.{Option, None, Some, map, flat_map, nat_eq, ◌&&◌, IfSome}
 use Rattle.std.specs.Option.{option_to_list}
 use Rattle.std.proofs.lemmas.List.{map-append}
 use Rattle.std.proofs.lemmas.List.Concat.{flat_map-append}
@@ -20,7 +20,7 @@ use Rattle.us_rules.specs.declared.ends.Ends.{Ends}
 use Rattle.us_rules.specs.declared.state.BreakCount.{BreakCount}
 use Rattle.us_rules.specs.declared.state.WeekCount.{WeekCount}
 use Rattle.us_rules.specs.declared.state.UsState.{UsState}
-use Rattle.us_rules.specs.Machine.{us_fits, break_ok, break_after, week_ok, week_after, us_made, mark_of, us_next, us_nexts, first_of, goes_on, marked_next, us_advances}
+use Rattle.us_rules.specs.Machine.{us_fits, break_ok, break_after, week_ok, week_after, us_made, mark_of, us_next, us_nexts, first_of, goes_on, marked_next}
 
 -- the unit of duty behind what a run left, where it keeps the limits
 abbrev pub duty_after : Activity → Option SplitCount → Option SplitCount

@@ -1,32 +1,27 @@
 -- The book is exact: a history is reached from the root by a path that chooses these marks exactly where it keeps every rule with them.
-use Rattle.std.proofs.Common.{◌≡◌, ◌↔◌, ℕ, ◌+◌, ◌-◌, ◌*◌, ◌<◌, ◌≤◌, Bool, true, false, List, [], ◌∷◌, ◌++◌, length, refl, sym, ◌∙◌, ap, subst, arith, length-append, ◌⊎◌, inl, inr, zero, suc}
-use Rattle.std.specs.Prelude.{Option, None, Some, map, replicate, Contains, All, AllPairs, ℤ}
+use Rattle.std.proofs.Common.{◌≡◌, ◌↔◌, ℕ, ◌+◌, ◌-◌, ◌<◌, ◌≤◌, Bool, true, false, List, [], ◌∷◌, ◌++◌, length, refl, sym, ◌∙◌, ap, subst, arith, length-append, inl, inr}
+use Rattle.std.specs.Prelude.{map, replicate, Contains, All, ℤ}
 use Rattle.std.proofs.lemmas.Bool.{cases_lt}
-use Rattle.std.proofs.lemmas.List.{length-replicate}
 use Rattle.std.proofs.lemmas.List.Elements.{All-cons}
 use Rattle.duty_core.specs.declared.activity.Activity.{Activity}
-use Rattle.duty_core.specs.declared.activity.Activity.TheVariants.{Drive, Off}
 use Rattle.duty_core.specs.declared.mark.Mark.{Mark}
 use Rattle.duty_core.specs.declared.mark.Mark.TheVariants.{SplitRest, DeferDay}
 use Rattle.duty_core.specs.declared.params.Params.TheVariants.{UsProperty}
 use Rattle.duty_core.specs.declared.rule.Rule.{Rule}
 use Rattle.duty_core.specs.declared.rule.Rule.TheVariants.{UsWindow14, UsDrive11, UsBreak8, UsWeek, UsPair}
-use Rattle.duty_core.specs.declared.limits.TheConstants.{US_FULL_REST, PADDING_MINUTES, COUNT_LIMIT, LONGEST_HISTORY, US_BREAK, US_RESTART}
+use Rattle.duty_core.specs.declared.limits.TheConstants.{US_FULL_REST, PADDING_MINUTES, COUNT_LIMIT, US_BREAK, US_RESTART}
 use Rattle.duty_core.specs.Activity.{rests}
-use Rattle.duty_core.specs.Params.{unit_minutes}
 use Rattle.duty_core.specs.History.{unit_at, pad_units, padding, padded, IsTimed}
 use Rattle.duty_core.specs.HistoryLaws.{AreAlike, unit_at-append, unit_at-replicate}
-use Rattle.duty_core.specs.RestRun.{IsRun}
-use Rattle.duty_core.specs.Marks.{IsSplitAt, AreInOrder}
-use Rattle.duty_core.specs.DeclaredRest.{IsSplitRest, ArePairedAt, IsSplittable}
-use Rattle.duty_core.specs.UsRules.{MeetsUsWindow14, MeetsUsDrive11, MeetsUsBreak8, MeetsUsWeek, IsUsPair, IsUsSplit, MeetsUsPair}
+use Rattle.duty_core.specs.Marks.{IsSplitAt}
+use Rattle.duty_core.specs.DeclaredRest.{ArePairedAt, IsSplittable}
+use Rattle.duty_core.specs.UsRules.{MeetsUsWindow14, MeetsUsDrive11, MeetsUsBreak8, MeetsUsWeek, IsUsPair, MeetsUsPair}
 use Rattle.duty_core.specs.RuleBooks.{Keeps, KeepsAll}
-use Rattle.rule_core.specs.Guard.{Passes, guard_exact}
+use Rattle.rule_core.specs.Guard.{guard_exact}
 use Rattle.sleeper_split.specs.declared.rule.TheConstants.SplitRule.{US}
-use Rattle.sleeper_split.specs.declared.count.SplitCount.{SplitCount}
 use Rattle.sleeper_split.specs.Machine.{fresh_count}
 use Rattle.sleeper_split.specs.Choices.{Declares}
-use Rattle.sleeper_split.specs.Alike.{AreMarkedAlike, marked_back, split_marked, next_marked, base_marked}
+use Rattle.sleeper_split.specs.Alike.{AreMarkedAlike, split_marked, next_marked, base_marked}
 use Rattle.sleeper_split.specs.Exact.{MaySplit, KeepsSplits, IsPairOf}
 use Rattle.sleeper_split.specs.ExactLaws.{split_exact}
 use Rattle.sleeper_split.specs.CountryLaws.{us_rule, us_pair, us_may_split, us_limit}
@@ -36,7 +31,7 @@ use Rattle.us_rules.specs.Padding.{us_pads, length_padding}
 use Rattle.us_rules.specs.BreakGuard.{TracksBreak, break_is_guard, tracks_break_root}
 use Rattle.us_rules.specs.WeekGuard.{us_day, TracksWeek, week_is_guard, tracks_week_root}
 use Rattle.us_rules.specs.Paths.{mark_at, UsReaches, IsUsPath, us_path, path_us}
-use Rattle.us_rules.specs.Places.{minute_means, means_minute, contains-map, contains_map, HaveMinutes, marked_place, place_marked, marks_ordered, HasPlace, place_of, marks_again, places_have, places_ordered}
+use Rattle.us_rules.specs.Places.{minute_means, means_minute, contains-map, HaveMinutes, marked_place, place_marked, marks_ordered, HasPlace, place_of, marks_again, places_have, places_ordered}
 
 -- # One history, its runs marked in two ways
 

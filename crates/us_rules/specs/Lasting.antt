@@ -1,31 +1,28 @@
 -- What covers a state goes on to cover its successors, and where resting is safe it covers all else.
-use Rattle.std.proofs.Common.{◌≡◌, ℕ, ◌+◌, ◌-◌, ◌*◌, ◌<◌, ◌≤◌, Bool, true, false, cond, List, [], ◌∷◌, ◌++◌, length, refl, sym, ◌∙◌, ap, subst, ◌⊎◌, inl, inr}
-use Rattle.std.specs.Prelude.{Option, None, Some, replicate}
+use Rattle.std.proofs.Common.{◌≡◌, ℕ, ◌+◌, ◌-◌, ◌*◌, ◌<◌, Bool, true, false, cond, [], ◌∷◌, refl, sym, subst, ◌⊎◌, inl, inr}
+use Rattle.std.specs.Prelude.{None, Some}
 use Rattle.std.specs.Option.{option_to_list}
 use Rattle.std.proofs.lemmas.Bool.{cases_Bool}
 use Rattle.duty_core.specs.declared.activity.Activity.{Activity}
 use Rattle.duty_core.specs.declared.activity.Activity.TheVariants.{Drive, Serve, Wait, Off, Berth}
-use Rattle.duty_core.specs.declared.params.Params.{Params}
 use Rattle.duty_core.specs.declared.params.Params.TheVariants.{UsProperty}
 use Rattle.duty_core.specs.Activity.{idles}
-use Rattle.duty_core.specs.Params.{unit_minutes, allows}
+use Rattle.duty_core.specs.Params.{allows}
 use Rattle.rule_core.specs.declared.nexts.Next.{Next}
 use Rattle.rule_core.specs.Reach.{idle_list, IsOneOf, IsAnswered}
 use Rattle.rule_core.specs.TourRest.{tour_rest}
 use Rattle.rule_core.specs.StateText.{IsAheadLaw}
-use Rattle.rule_core.specs.RestLaws.{IsLasting, IsRestAnswer, rest_answers}
+use Rattle.rule_core.specs.RestLaws.{IsLasting, rest_answers}
 use Rattle.sleeper_split.specs.declared.rule.TheConstants.SplitRule.{US}
 use Rattle.sleeper_split.specs.Machine.{run_of, after_rest}
-use Rattle.sleeper_split.specs.Choices.{Choice, choice, choices, sleeps}
-use Rattle.sleeper_split.specs.Covers.{own_rest, is_ahead, allowed}
+use Rattle.sleeper_split.specs.Choices.{Choice, choice, sleeps}
+use Rattle.sleeper_split.specs.Covers.{own_rest, allowed}
 use Rattle.sleeper_split.specs.CoverLaws.{choices_cover, rest_choice, choices_ahead, ahead_on}
 use Rattle.sleeper_split.specs.BetterLaws.{us_pair_rule, us_monotone}
-use Rattle.us_rules.specs.declared.state.BreakCount.{BreakCount}
-use Rattle.us_rules.specs.declared.state.WeekCount.{WeekCount}
 use Rattle.us_rules.specs.declared.state.UsState.{UsState}
 use Rattle.us_rules.specs.Machine.{us_fits, paused, break_after, break_ok, begins_day, week_rested, week_after, week_ok, us_next, us_nexts, us_advances, IsUsState, us_covers, us_ahead, us_idles}
 use Rattle.us_rules.specs.Covers.{UsCovers, BreakCovers, WeekCovers, HasDays, us_covers_decides, us_same, us_over, break_covers_on, break_covers_ok, pause_covers, week_covers_on, week_covers_ok, week_rest_covers}
-use Rattle.us_rules.specs.Paths.{UsReaches, next_means, means_next}
+use Rattle.us_rules.specs.Paths.{next_means, means_next}
 use Rattle.us_rules.specs.States.{next_is_us_state}
 use Rattle.us_rules.specs.Advance.{us_advances_reach, us_advances_all}
 use Rattle.day_sums.specs.Counted.{turned}

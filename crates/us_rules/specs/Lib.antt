@@ -14,4 +14,5 @@ pub mod Numbers
 pub mod NumberLaws
 pub mod Single
 pub mod Ends
+pub mod Spans
 pub mod Ahead

@@ -1,8 +1,7 @@
 -- The machine of the United States: states, successors, and many equal units.
-use Rattle.std.specs.Prelude.{◌≡◌, ℕ, ◌+◌, ◌-◌, ◌%◌, ◌≤◌, ◌⊎◌, zero, suc, min, sum, length, replicate, Bool, true, cond, List, [], ◌∷◌, ◌++◌, map, flat_map, Option, None, Some, nat_eq, nat_lt, nat_le, ◌==◌, ◌&&◌, if◌then◌else◌, All}
-use Rattle.std.specs.Option.{option_to_list}
+use Rattle.std.specs.Prelude.{◌≡◌, ℕ, ◌+◌, ◌-◌, ◌%◌, ◌≤◌, zero, suc, min, sum, length, replicate, Bool, true, cond, List, [], ◌∷◌, map, flat_map, Option, None, Some, nat_lt, nat_le, ◌==◌, ◌&&◌, if◌then◌else◌, All}
 use Rattle.duty_core.specs.declared.activity.Activity.{Activity}
-use Rattle.duty_core.specs.declared.activity.Activity.TheVariants.{Drive, Serve, Wait, Off, Berth}
+use Rattle.duty_core.specs.declared.activity.Activity.TheVariants.{Wait}
 use Rattle.duty_core.specs.declared.mark.Mark.{Mark}
 use Rattle.duty_core.specs.declared.mark.Mark.TheVariants.{SplitRest}
 use Rattle.duty_core.specs.declared.limits.TheConstants.{DAY_MINUTES, US_WINDOW_LIMIT, US_DRIVING_LIMIT, US_BREAK, US_UNBROKEN_LIMIT, US_RESTART}
@@ -15,8 +14,8 @@ use Rattle.day_sums.specs.Counted.{turned, after_rest}
 use Rattle.sleeper_split.specs.declared.rule.TheConstants.SplitRule.{US}
 use Rattle.sleeper_split.specs.declared.count.SplitCount.{SplitCount}
 use Rattle.sleeper_split.specs.declared.count.Since.TheVariants.{Driving, Elapsed}
-use Rattle.sleeper_split.specs.Machine.{fresh_count, after_duty, end_undeclared, end_split, end_full, used_of, run_of}
-use Rattle.sleeper_split.specs.Choices.{Choice, choices, sleeps}
+use Rattle.sleeper_split.specs.Machine.{fresh_count, used_of, run_of}
+use Rattle.sleeper_split.specs.Choices.{Choice, choices}
 use Rattle.sleeper_split.specs.Covers.{IsCountOf, own_rest, is_ahead, covers_count}
 use Rattle.us_rules.specs.declared.state.BreakCount.{BreakCount}
 use Rattle.us_rules.specs.declared.state.WeekCount.{WeekCount}

@@ -1,6 +1,6 @@
 -- A state is written as its numbers, and read back from just these.
-use Rattle.std.proofs.Common.{◌≡◌, ◌↔◌, ℕ, ◌+◌, ◌-◌, ◌<◌, ◌≤◌, Bool, true, false, List, [], ◌∷◌, ◌++◌, length, take, drop, refl, sym, ◌∙◌, ap, subst, arith, ◌⊎◌, inl, inr, zero, suc}
-use Rattle.std.specs.Prelude.{Option, None, Some, nat_eq, nat_lt, nat_le, not, ◌&&◌, ◌||◌, if◌then◌else◌, All}
+use Rattle.std.proofs.Common.{◌≡◌, ◌↔◌, ℕ, ◌+◌, ◌-◌, ◌<◌, ◌≤◌, Bool, true, false, List, [], ◌∷◌, length, take, drop, refl, sym, ◌∙◌, ap, subst, arith, inl, inr, zero, suc}
+use Rattle.std.specs.Prelude.{Option, None, Some, nat_eq, nat_le, not, ◌&&◌, ◌||◌, if◌then◌else◌, All}
 use Rattle.std.specs.Bool.{then_some}
 use Rattle.std.proofs.lemmas.Bool.{cases_Bool}
 use Rattle.std.proofs.lemmas.Bool.Decides.{nat_tests}
@@ -21,7 +21,7 @@ use Rattle.us_rules.specs.declared.numbers.TheConstants.{COUNTS}
 use Rattle.us_rules.specs.declared.state.BreakCount.{BreakCount}
 use Rattle.us_rules.specs.declared.state.WeekCount.{WeekCount}
 use Rattle.us_rules.specs.declared.state.UsState.{UsState}
-use Rattle.us_rules.specs.Machine.{break_made, week_made, us_made, day_so_far, IsUsState}
+use Rattle.us_rules.specs.Machine.{us_made, day_so_far, IsUsState}
 use Rattle.us_rules.specs.Numbers.{waiting_long, waiting_berth, waiting_of, us_numbers, item, split_of, state_by, is_used, is_open_run, is_waiting_rest, same_used, is_split_count, waits_well, is_count, are_within, holds_break_week, is_us_state, us_state_of}
 
 -- # The test

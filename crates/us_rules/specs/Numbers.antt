@@ -1,5 +1,5 @@
 -- The numbers by which a state is written down, and which numbers are those of a state.
-use Rattle.std.specs.Prelude.{◌≡◌, ℕ, ◌+◌, ◌≤◌, Bool, true, List, [], ◌∷◌, length, drop, Option, None, Some, nat_eq, nat_le, ◌&&◌, ◌||◌, not, if◌then◌else◌, slice_index_or}
+use Rattle.std.specs.Prelude.{ℕ, ◌+◌, Bool, true, List, [], ◌∷◌, length, drop, Option, None, Some, nat_eq, nat_le, ◌&&◌, ◌||◌, not, if◌then◌else◌, slice_index_or}
 use Rattle.duty_core.specs.declared.limits.TheConstants.{DAY_MINUTES, COUNT_LIMIT, US_BREAK, US_UNBROKEN_LIMIT, US_RESTART}
 use Rattle.day_sums.specs.Sums.{today}
 use Rattle.sleeper_split.specs.declared.rule.SplitRule.{SplitRule}

@@ -1,11 +1,10 @@
 -- The rest before a history of the United States, and its minutes.
-use Rattle.std.proofs.Common.{◌≡◌, ℕ, ◌+◌, ◌*◌, ◌<◌, ◌≤◌, Bool, List, length, refl, ◌∙◌, arith}
+use Rattle.std.proofs.Common.{◌≡◌, ℕ, ◌+◌, Bool, List, length, refl, ◌∙◌, arith}
 use Rattle.std.proofs.lemmas.List.{length-replicate}
 use Rattle.duty_core.specs.declared.activity.Activity.{Activity}
 use Rattle.duty_core.specs.declared.activity.Activity.TheVariants.{Off}
 use Rattle.duty_core.specs.declared.params.Params.TheVariants.{UsProperty}
 use Rattle.duty_core.specs.declared.limits.TheConstants.{PADDING_MINUTES}
-use Rattle.duty_core.specs.Params.{unit_minutes}
 use Rattle.duty_core.specs.History.{pad_days, pad_units, padding}
 use Rattle.rule_core.specs.Guard.{IsBehind}
 

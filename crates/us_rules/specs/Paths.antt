@@ -1,13 +1,12 @@
 -- A path of the book's machine is a path of the counts of split rests that both guards let pass.
-use Rattle.std.proofs.Common.{◌≡◌, ℕ, ◌+◌, ◌-◌, ◌<◌, ◌≤◌, Bool, true, false, cond, List, [], ◌∷◌, ◌++◌, length, refl, sym, ◌∙◌, ap, subst, arith, ◌⊎◌, inl, inr, zero, suc}
-use Rattle.std.specs.Prelude.{Option, None, Some, map, Contains, ◌&&◌, if◌then◌else◌}
+use Rattle.std.proofs.Common.{◌≡◌, ℕ, ◌+◌, ◌-◌, ◌≤◌, Bool, true, false, List, [], ◌∷◌, ◌++◌, refl, sym, ◌∙◌, ap, subst, arith, inl, inr}
+use Rattle.std.specs.Prelude.{Option, map, Contains, ◌&&◌}
 use Rattle.std.specs.Option.{option_to_list}
 use Rattle.std.proofs.lemmas.List.{map-append}
 use Rattle.duty_core.specs.declared.activity.Activity.{Activity}
 use Rattle.duty_core.specs.declared.mark.Mark.{Mark}
 use Rattle.duty_core.specs.declared.mark.Mark.TheVariants.{SplitRest}
 use Rattle.duty_core.specs.declared.limits.TheConstants.{PADDING_MINUTES}
-use Rattle.duty_core.specs.Activity.{rests, drives}
 use Rattle.rule_core.specs.declared.nexts.Next.{Next}
 use Rattle.rule_core.specs.Reach.{IsOneOf, Reaches}
 use Rattle.rule_core.specs.OneOf.{one_of-map, one_of_map}
@@ -18,10 +17,8 @@ use Rattle.sleeper_split.specs.Machine.{run_of}
 use Rattle.sleeper_split.specs.Choices.{Choice, choices, declared, Declares}
 use Rattle.sleeper_split.specs.Growth.{contains_none, contains_head, contains_tail, contains_cases}
 use Rattle.sleeper_split.specs.ChoiceLaws.{IsChoice, choice_cases}
-use Rattle.us_rules.specs.declared.state.BreakCount.{BreakCount}
-use Rattle.us_rules.specs.declared.state.WeekCount.{WeekCount}
 use Rattle.us_rules.specs.declared.state.UsState.{UsState}
-use Rattle.us_rules.specs.Machine.{us_fits, break_after, break_ok, week_after, week_ok, us_made, mark_of, us_next, us_nexts}
+use Rattle.us_rules.specs.Machine.{us_fits, break_after, break_ok, week_after, week_ok, mark_of, us_next, us_nexts}
 
 -- # Successors
 

@@ -1,8 +1,8 @@
 -- A history with its marks reaches one state, and a unit chooses a mark only where it is first possible.
-use Rattle.std.proofs.Common.{◌≡◌, ◌↔◌, ℕ, ◌+◌, ◌-◌, ◌*◌, ◌<◌, ◌≤◌, Bool, true, false, cond, List, [], ◌∷◌, ◌++◌, length, refl, sym, ◌∙◌, ap, subst, arith, length-append, ◌⊎◌, inl, inr}
-use Rattle.std.specs.Prelude.{Option, None, Some, replicate, Contains, map, nat_lt}
+use Rattle.std.proofs.Common.{◌≡◌, ◌↔◌, ℕ, ◌+◌, ◌-◌, ◌*◌, ◌<◌, ◌≤◌, Bool, true, false, List, [], ◌∷◌, ◌++◌, length, sym, ◌∙◌, ap, subst, arith, length-append, inl, inr}
+use Rattle.std.specs.Prelude.{None, Some, replicate, Contains, nat_lt}
 use Rattle.std.proofs.lemmas.Bool.Decides.{nat_tests}
-use Rattle.std.proofs.lemmas.Bool.{cases_lt, cases_Bool}
+use Rattle.std.proofs.lemmas.Bool.{cases_lt}
 use Rattle.std.proofs.lemmas.List.Elements.{Contains-append_right}
 use Rattle.duty_core.specs.declared.activity.Activity.{Activity}
 use Rattle.duty_core.specs.declared.activity.Activity.TheVariants.{Off}
@@ -27,17 +27,14 @@ use Rattle.sleeper_split.specs.declared.count.SplitCount.{SplitCount}
 use Rattle.sleeper_split.specs.Machine.{fresh_count, run_of, may_split}
 use Rattle.sleeper_split.specs.Choices.{Choice, Declares}
 use Rattle.sleeper_split.specs.Growth.{contains_head}
-use Rattle.sleeper_split.specs.ChoiceLaws.{IsChoice, IsAsSplit, declares_once}
+use Rattle.sleeper_split.specs.ChoiceLaws.{IsChoice, declares_once}
 use Rattle.sleeper_split.specs.Tracks.{Tracks}
-use Rattle.sleeper_split.specs.Exact.{KeepsSplits}
 use Rattle.sleeper_split.specs.ExactLaws.{split_exact, split_tracks}
 use Rattle.sleeper_split.specs.CountryLaws.{us_rule, us_limit}
-use Rattle.us_rules.specs.declared.state.BreakCount.{BreakCount}
-use Rattle.us_rules.specs.declared.state.WeekCount.{WeekCount}
 use Rattle.us_rules.specs.declared.state.UsState.{UsState}
 use Rattle.us_rules.specs.Machine.{us_fits, mark_of, us_nexts, us_made, root_state}
 use Rattle.us_rules.specs.Padding.{us_pads, length_padding}
-use Rattle.us_rules.specs.Paths.{mark_at, UsReaches, IsUsPath, next_means, us_choice, both_true}
+use Rattle.us_rules.specs.Paths.{UsReaches, IsUsPath, next_means, us_choice, both_true}
 use Rattle.us_rules.specs.Places.{minute_means, HaveMinutes, places_once}
 use Rattle.us_rules.specs.Exact.{us_holds, short_history, starts_have, root_path, us_exact}
 

@@ -1,18 +1,17 @@
 -- What a state is: of the root, and of each successor.
-use Rattle.std.proofs.Common.{◌≡◌, ℕ, ◌+◌, ◌-◌, ◌%◌, ◌<◌, ◌≤◌, Bool, true, false, cond, List, [], ◌∷◌, length, refl, sym, ◌∙◌, ap, subst, arith, ◌⊎◌, inl, inr, min, max}
-use Rattle.std.specs.Prelude.{Option, None, Some, replicate, All}
-use Rattle.std.proofs.lemmas.Bool.{cases_lt, cases_eq, cases_Bool}
+use Rattle.std.proofs.Common.{◌≡◌, ℕ, ◌+◌, ◌-◌, ◌%◌, ◌<◌, ◌≤◌, Bool, true, false, List, [], ◌∷◌, length, refl, sym, ◌∙◌, ap, subst, arith, inl, inr}
+use Rattle.std.specs.Prelude.{None, Some, replicate, All}
+use Rattle.std.proofs.lemmas.Bool.{cases_lt, cases_eq}
 use Rattle.std.proofs.lemmas.Bool.Decides.{nat_tests}
 use Rattle.std.proofs.lemmas.List.{length-replicate}
 use Rattle.std.proofs.lemmas.List.Elements.{All-cons, All-tail, All-take, All-replicate}
 use Rattle.duty_core.specs.declared.activity.Activity.{Activity}
 use Rattle.duty_core.specs.declared.activity.Activity.TheVariants.{Drive, Serve, Wait, Off, Berth}
-use Rattle.duty_core.specs.declared.limits.TheConstants.{DAY_MINUTES, COUNT_LIMIT, US_BREAK, US_UNBROKEN_LIMIT, US_RESTART, US_SHORT_WEEK}
-use Rattle.duty_core.specs.Activity.{rests, drives}
+use Rattle.duty_core.specs.declared.limits.TheConstants.{DAY_MINUTES, US_BREAK, US_UNBROKEN_LIMIT, US_RESTART, US_SHORT_WEEK}
 use Rattle.rule_core.specs.declared.nexts.Next.{Next}
 use Rattle.rule_core.specs.Reach.{IsOneOf}
-use Rattle.day_sums.specs.Sums.{IsDays, added, rolled, cleared, today}
-use Rattle.day_sums.specs.SumLaws.{length-added, length-rolled, length-cleared, today_rolled, today_cleared, today_added}
+use Rattle.day_sums.specs.Sums.{IsDays, added, cleared, today}
+use Rattle.day_sums.specs.SumLaws.{length-added, today_rolled, today_cleared, today_added}
 use Rattle.day_sums.specs.Counted.{turned, after_rest, length-turned}
 use Rattle.sleeper_split.specs.declared.rule.TheConstants.SplitRule.{US}
 use Rattle.sleeper_split.specs.Covers.{IsCountOf}
@@ -20,7 +19,7 @@ use Rattle.sleeper_split.specs.CoverLaws.{fresh_kept, choice_kept}
 use Rattle.us_rules.specs.declared.state.BreakCount.{BreakCount}
 use Rattle.us_rules.specs.declared.state.WeekCount.{WeekCount}
 use Rattle.us_rules.specs.declared.state.UsState.{UsState}
-use Rattle.us_rules.specs.Machine.{us_fits, break_made, paused, break_after, break_ok, week_made, begins_day, week_rested, week_after, us_nexts, first_of, root_state, day_so_far, IsUsState}
+use Rattle.us_rules.specs.Machine.{us_fits, paused, break_after, break_ok, week_made, begins_day, week_rested, week_after, us_nexts, first_of, root_state, day_so_far, IsUsState}
 use Rattle.us_rules.specs.BreakGuard.{paused_cases}
 use Rattle.us_rules.specs.WeekGuard.{length-after_rest}
 use Rattle.us_rules.specs.Paths.{next_means, us_choice}
@@ -159,7 +158,7 @@ pub week_counted : (days : ℕ) → (US_SHORT_WEEK ≤ days) × (days ≤ 8) →
 week_counted days h = let a = h.0 in let b = h.1 in elim (cases_lt days 8) [ inl l ↦ inl (omega arith) | inr l ↦ inr (inl (omega arith)) ]
 
 -- the first successor is a state too
-first_in : (ns : List (Next UsState)) (t : UsState) → first_of ns ≡ Some t → (n : Next UsState) × IsOneOf ns n × (n.state ≡ t)
+pub first_in : (ns : List (Next UsState)) (t : UsState) → first_of ns ≡ Some t → (n : Next UsState) × IsOneOf ns n × (n.state ≡ t)
 first_in [] t e = absurd (let z : None ≡ Some t = e in cc)
 first_in (n ∷ ns) t e = (n, inl refl, let q : n.state ≡ t = cc in q)
 

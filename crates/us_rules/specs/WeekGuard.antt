@@ -1,5 +1,5 @@
 -- The counts of the week mean the rule of sixty or seventy hours.
-use Rattle.std.proofs.Common.{◌≡◌, ℕ, ◌+◌, ◌-◌, ◌*◌, ◌/◌, ◌%◌, ◌<◌, ◌≤◌, Bool, true, false, List, [], ◌∷◌, ◌++◌, length, take, refl, sym, ◌∙◌, ap, subst, cond, arith, min, inl, inr}
+use Rattle.std.proofs.Common.{◌≡◌, ℕ, ◌+◌, ◌-◌, ◌*◌, ◌/◌, ◌%◌, ◌<◌, ◌≤◌, Bool, true, false, List, [], ◌∷◌, ◌++◌, length, refl, sym, ◌∙◌, ap, subst, arith, min, inl, inr}
 use Rattle.std.specs.Prelude.{sum, replicate, nat_le}
 use Rattle.std.proofs.lemmas.Bool.{cases_lt, cases_eq}
 use Rattle.std.proofs.lemmas.Bool.Decides.{nat_tests}
@@ -12,13 +12,12 @@ use Rattle.duty_core.specs.Activity.{rests, drives}
 use Rattle.duty_core.specs.History.{unit_at, pad_units, padding}
 use Rattle.duty_core.specs.HistoryLaws.{unit_at-last, length-one_more}
 use Rattle.duty_core.specs.RunLaws.{ends_padding}
-use Rattle.duty_core.specs.Day.{day_number}
 use Rattle.duty_core.specs.Counting.{duty, IsDaysBase}
 use Rattle.duty_core.specs.UsRules.{us_week_limit, MeetsUsWeek}
 use Rattle.duty_core.specs.RuleLaws.{us_week_is_rule}
-use Rattle.rule_core.specs.Guard.{IsBehind, IsGuard}
-use Rattle.day_sums.specs.Sums.{first_days, added, rolled, cleared}
-use Rattle.day_sums.specs.SumLaws.{length-added, length-rolled, length-cleared}
+use Rattle.rule_core.specs.Guard.{IsGuard}
+use Rattle.day_sums.specs.Sums.{first_days, added, cleared}
+use Rattle.day_sums.specs.SumLaws.{length-added, length-cleared}
 use Rattle.day_sums.specs.Counted.{TracksDays, IsTurn, IsDutyOfDays, turned, after_rest, length-turned, tracks_duty, tracks_rest, tracks_start, duty_is}
 use Rattle.us_rules.specs.declared.state.WeekCount.{WeekCount}
 use Rattle.us_rules.specs.Machine.{week_made, begins_day, week_rested, week_after, week_ok}

@@ -7,9 +7,11 @@ ghost use Rattle.duty_core.specs.UsRules.{us_week_limit};
 ghost use Rattle.day_sums.specs.Sums.{today};
 ghost use Rattle.day_sums.specs.Counted.{turned};
 ghost use Rattle.rule_core.specs.Reach.{listed};
-ghost use Rattle.us_rules.specs.Machine.{IsUsState, root_state, begins_day, day_so_far, week_after, week_ok, us_nexts, us_advances, first_of, goes_on, week_covers, us_covers, us_ahead, us_idles};
+ghost use Rattle.us_rules.specs.Machine.{IsUsState, root_state, begins_day, day_so_far, us_nexts, us_advances, first_of, goes_on, week_covers, us_covers, us_ahead, us_idles};
 ghost use Rattle.us_rules.specs.Numbers.{us_numbers, us_state_of, holds_break_week};
 ghost use Rattle.us_rules.specs.Ends.{next_with, nexts_made, first_next, onward};
+ghost use Rattle.us_rules.specs.Spans.{left_of_day, week_span};
+ghost use Rattle.us_rules.specs.Advance.{IsSteady};
 ghost use Rattle.us_rules.specs.Lasting.{us_covers_itself, us_covers_on, us_simulation, us_ahead_stays, us_ahead_rests, us_idles_allowed, us_idles_cover};
 ghost use Rattle.us_rules.specs.Better.{us_better_covers};
 ghost use Rattle.us_rules.specs.NumberLaws.{us_numbers_read, us_numbers_told, us_numbers_few};
@@ -23,11 +25,12 @@ use crate::numbers::{COUNTS, item, split_by};
 use crate::state::{BreakCount, UsState, WeekCount};
 use day_sums::DaySums;
 use duty_core::{
-    Activity, DAY_MINUTES, Mark, Minute, NoMemory, Params, US_BREAK, US_LONG_WEEK_LIMIT,
-    US_RESTART, US_SHORT_WEEK, US_SHORT_WEEK_LIMIT, US_UNBROKEN_LIMIT, is_rest,
+    Activity, DAY_MINUTES, Mark, Minute, NoMemory, Params, US_BREAK, US_DRIVING_LIMIT,
+    US_FULL_REST, US_LONG_WEEK_LIMIT, US_PAIR_LEAST, US_RESTART, US_SHORT_WEEK,
+    US_SHORT_WEEK_LIMIT, US_UNBROKEN_LIMIT, US_WINDOW_LIMIT, is_rest,
 };
 use rule_core::{Idles, Next, Nexts, Numbers, RuleBook};
-use sleeper_split::{SplitCount, SplitRule};
+use sleeper_split::{SplitCount, SplitRule, Used};
 
 /// The rule book of the United States, property-carrying (49 CFR 395.3 and 395.1(g)(1)): the window
 /// of fourteen hours, eleven hours of driving, a break after eight, sixty or seventy hours of duty
@@ -68,24 +71,32 @@ impl UsBook {
             == 0
     }
 
-    /// The counts of the week after the minute `at`.
-    fn week_after(&self, week: &WeekCount, at: Minute, act: Activity) -> WeekCount
-        requires range { at < MINUTE_LIMIT }
+    /// The minutes of the day of the minute `at`, from that one on.
+    fn left_of_day(&self, at: Minute) -> u32
+        ensures { result ≡ left_of_day self.now.day_start at }
+    {
+        let start = DAY_MINUTES.saturating_sub(u32::from(self.day_start));
+        DAY_MINUTES - (at % DAY_MINUTES + start) % DAY_MINUTES
+    }
+
+    /// The counts of the week after `n` minutes of one day, the first of which is `at`.
+    fn week_after(&self, week: &WeekCount, at: Minute, act: Activity, n: u32) -> WeekCount
         requires rest { week.now.rest ≤ US_RESTART }
-        requires day { today (turned (begins_day self.now.day_start at) week.now.sums) + 1 ≤ DAY_MINUTES }
-        ensures { result ≡ week_after self.now.day_start week.now at act }
+        requires day { today (turned (begins_day self.now.day_start at) week.now.sums) + n ≤ DAY_MINUTES }
+        ensures { result ≡ week_span self.now.day_start week.now at act n }
     {
         let mut sums = self.days_at(week, at);
         if is_rest(act) {
-            if week.rest + 1 >= US_RESTART {
+            let rest = week.rest + n;
+            if rest >= US_RESTART {
                 sums.reset();
             }
             WeekCount {
-                rest: US_RESTART.min(week.rest + 1),
+                rest: US_RESTART.min(rest),
                 sums,
             }
         } else {
-            sums.add(1);
+            sums.add(n);
             WeekCount { rest: 0, sums }
         }
     }
@@ -122,6 +133,33 @@ fn next_by(
     })
 }
 
+/// The full rests, in minutes, that a shift of which so much is used leaves to take before so much
+/// driving and other duty is done.
+fn rest_before(used: Used, run: u32, driving: u32, other: u32) -> u32 {
+    let drive_left = US_DRIVING_LIMIT.saturating_sub(used.driving);
+    let window_left = US_WINDOW_LIMIT.saturating_sub(used.elapsed.saturating_sub(run));
+    let by_driving = shifts(driving.saturating_sub(drive_left), US_DRIVING_LIMIT);
+    let by_window = shifts(
+        driving.saturating_add(other).saturating_sub(window_left),
+        US_WINDOW_LIMIT,
+    );
+    US_FULL_REST.saturating_mul(by_driving.max(by_window))
+}
+
+/// Nothing used.
+const NOTHING: Used = Used {
+    driving: 0,
+    duty: 0,
+    elapsed: 0,
+};
+
+/// How many shifts of this length so many minutes take.
+fn shifts(minutes: u32, shift: u32) -> u32
+    requires { 1 ≤ shift }
+{
+    minutes.saturating_add(shift - 1) / shift
+}
+
 /// No successor.
 const NONE: Nexts<UsState> = Nexts {
     a: None,
@@ -130,21 +168,25 @@ const NONE: Nexts<UsState> = Nexts {
 };
 
 impl UsBook {
-    /// The successors by a minute of this activity.
-    fn nexts(&self, state: &UsState, at: Minute, act: Activity) -> Nexts<UsState>
+    /// The successors by `n` minutes of this activity, at least one, all of one day.
+    ///
+    /// The counts only grow while a driver is on duty, so the last of the minutes decides whether a
+    /// rule forbids one of them.
+    fn nexts(&self, state: &UsState, at: Minute, act: Activity, n: u32) -> Nexts<UsState>
         requires state { IsUsState self.now.berth self.now.days self.now.day_start state.now at }
-        requires range { at < MINUTE_LIMIT }
-        ensures { listed result ≡ us_nexts self.now.berth self.now.days self.now.day_start state.now at act }
+        requires some { 1 ≤ n }
+        requires one_day { n ≤ left_of_day self.now.day_start at }
+        ensures { listed result ≡ us_advances self.now.berth self.now.days self.now.day_start state.now at act n }
     {
-        let week = self.week_after(&state.week, at, act);
-        if !state.rest_break.allows(act) || !self.week_allows(&week, act) {
+        let week = self.week_after(&state.week, at, act, n);
+        if !state.rest_break.allows(act, n) || !self.week_allows(&week, act) {
             return NONE;
         }
-        let rest_break = state.rest_break.after(act);
+        let rest_break = state.rest_break.after(act, n);
         let at_start = Mark::SplitRest {
             at: at.saturating_sub(state.split.run().long),
         };
-        let ends = Ends::of(self.berth, state.split, act);
+        let ends = Ends::of(self.berth, state.split, act, n);
         Nexts {
             a: next_by(ends.plain, rest_break, &week, None),
             b: next_by(ends.split, rest_break, &week, Some(at_start)),
@@ -152,25 +194,30 @@ impl UsBook {
         }
     }
 
-    /// The first successor, without its mark.
-    fn first_next(&self, state: &UsState, at: Minute, act: Activity) -> Option<UsState>
+    /// The first successor by `n` minutes of one day, without its mark.
+    fn first_next(&self, state: &UsState, at: Minute, act: Activity, n: u32) -> Option<UsState>
         requires state { IsUsState self.now.berth self.now.days self.now.day_start state.now at }
-        requires range { at < MINUTE_LIMIT }
-        ensures { result ≡ first_of (us_nexts self.now.berth self.now.days self.now.day_start state.now at act) }
+        requires some { 1 ≤ n }
+        requires one_day { n ≤ left_of_day self.now.day_start at }
+        ensures { result ≡ first_of (us_advances self.now.berth self.now.days self.now.day_start state.now at act n) }
     {
-        let Nexts { a, b, c } = self.nexts(state, at, act);
+        let Nexts { a, b, c } = self.nexts(state, at, act, n);
         first_state(a, b, c)
     }
 
-    /// Where `n` more minutes lead a state, each to its first successor.
+    /// Where `n` more minutes lead a state for which no choice is left, day by day.
     fn goes_on(&self, state: UsState, at: Minute, act: Activity, n: u32) -> Option<UsState>
         requires state { IsUsState self.now.berth self.now.days self.now.day_start state at }
+        requires steady { IsSteady state act }
         requires range { at + n ≤ MINUTE_LIMIT }
         ensures { result ≡ goes_on self.now.berth self.now.days self.now.day_start (Some state) at act n }
     {
         let mut state = state;
-        for k in 0..n {
-            state = self.first_next(&state, at + k, act)?;
+        let mut done = 0;
+        while done < n {
+            let more = self.left_of_day(at + done).min(n - done);
+            state = self.first_next(&state, at + done, act, more)?;
+            done += more;
         }
         Some(state)
     }
@@ -183,7 +230,7 @@ impl UsBook {
         act: Activity,
         n: u32,
     ) -> Option<Next<UsState>>
-        requires state { IfSome next (λ t. IsUsState self.now.berth self.now.days self.now.day_start t.state at) }
+        requires state { IfSome next (λ t. IsUsState self.now.berth self.now.days self.now.day_start t.state at × IsSteady t.state act) }
         requires range { at + n ≤ MINUTE_LIMIT }
         ensures { result ≡ onward self.now.berth self.now.days self.now.day_start next at act n }
     {
@@ -342,7 +389,7 @@ impl RuleBook for UsBook {
     }
 
     fn step(&self, state: &UsState, at: Minute, act: Activity) -> Result<Nexts<UsState>, NoMemory> {
-        Ok(self.nexts(state, at, act))
+        Ok(self.nexts(state, at, act, 1))
     }
 
     fn advance(
@@ -353,11 +400,16 @@ impl RuleBook for UsBook {
         n: u32,
     ) -> Result<Nexts<UsState>, NoMemory> {
         // Only the first minute may choose a mark.
-        let Nexts { a, b, c } = self.nexts(state, at, act);
+        let first = self.left_of_day(at).min(n);
+        let nexts = self.nexts(state, at, act, first);
+        if first == n {
+            return Ok(nexts);
+        }
+        let Nexts { a, b, c } = nexts;
         Ok(Nexts {
-            a: self.onward(a, at + 1, act, n - 1),
-            b: self.onward(b, at + 1, act, n - 1),
-            c: self.onward(c, at + 1, act, n - 1),
+            a: self.onward(a, at + first, act, n - first),
+            b: self.onward(b, at + first, act, n - first),
+            c: self.onward(c, at + first, act, n - first),
         })
     }
 
@@ -381,6 +433,23 @@ impl RuleBook for UsBook {
 
     fn ahead(&self, state: &UsState) -> bool {
         state.split.is_ahead(SplitRule::US, self.berth)
+    }
+
+    fn least_rest(&self, state: &UsState, driving: u32, other: u32) -> u32 {
+        let split = state.split;
+        let run = split.run().long;
+        if run >= US_FULL_REST {
+            return rest_before(NOTHING, 0, driving, other);
+        }
+        let owed = rest_before(split.base(), run, driving, other).saturating_sub(run);
+        match split.waiting() {
+            None => owed,
+            Some(rest) => {
+                let pair = US_PAIR_LEAST.saturating_sub(rest.long);
+                let later = rest_before(split.last(), run, driving, other).saturating_add(pair);
+                owed.min(later.saturating_sub(run))
+            }
+        }
     }
 
     fn write_state(&self, state: &UsState, _at: Minute, out: &mut Numbers) -> Result<(), NoMemory> {

@@ -3,10 +3,11 @@ ghost use Rattle.std.specs.Prelude.{◌≡◌, ◌+◌, ◌<◌, ◌≤◌};
 ghost use Rattle.day_sums.specs.Sums.{today};
 ghost use Rattle.duty_core.specs.declared.limits.TheConstants.{DAY_MINUTES, US_BREAK, US_UNBROKEN_LIMIT, US_RESTART};
 ghost use Rattle.day_sums.specs.Counted.{turned};
-ghost use Rattle.us_rules.specs.Machine.{break_ok, break_after, week_after, break_covers};
+ghost use Rattle.us_rules.specs.Machine.{break_covers};
+ghost use Rattle.us_rules.specs.Spans.{break_span, break_span_ok};
 
 use day_sums::DaySums;
-use duty_core::{Activity, US_BREAK, US_RESTART, US_UNBROKEN_LIMIT, is_rest};
+use duty_core::{Activity, US_BREAK, US_UNBROKEN_LIMIT};
 use sleeper_split::SplitCount;
 
 /// What the book remembers of a history.
@@ -55,27 +56,30 @@ impl BreakCount {
         driven: 0,
     };
 
-    /// Whether one more minute keeps the driving without a break within its limit.
-    pub(crate) fn allows(self, act: Activity) -> bool
-        ensures { result ≡ break_ok self 0 act }
+    /// Whether `n` more minutes keep the driving without a break within its limit.
+    pub(crate) fn allows(self, act: Activity, n: u32) -> bool
+        requires driven { self.driven ≤ US_UNBROKEN_LIMIT }
+        requires few { n ≤ DAY_MINUTES }
+        ensures { result ≡ break_span_ok self act n }
     {
-        !matches!(act, Activity::Drive) || self.driven < US_UNBROKEN_LIMIT
+        !matches!(act, Activity::Drive) || self.driven + n <= US_UNBROKEN_LIMIT
     }
 
-    /// The counts after one more minute.
-    pub(crate) fn after(self, act: Activity) -> BreakCount
+    /// The counts after `n` more minutes, at least one.
+    pub(crate) fn after(self, act: Activity, n: u32) -> BreakCount
         requires still { self.still ≤ US_BREAK }
         requires driven { self.driven ≤ US_UNBROKEN_LIMIT }
-        ensures { result ≡ break_after self 0 act }
+        requires few { n ≤ DAY_MINUTES }
+        ensures { result ≡ break_span self act n }
     {
         if matches!(act, Activity::Drive) {
             BreakCount {
                 still: 0,
-                driven: self.driven + 1,
+                driven: self.driven + n,
             }
-        } else if self.still + 1 < US_BREAK {
+        } else if self.still + n < US_BREAK {
             BreakCount {
-                still: self.still + 1,
+                still: self.still + n,
                 driven: self.driven,
             }
         } else {

@@ -164,6 +164,20 @@ fn covers_where_less_is_driven(rt: HostRuntime) -> Result<(), Fail> {
     Ok(())
 }
 
+#[test]
+fn counts_on_over_midnight(rt: HostRuntime) -> Result<(), Fail> {
+    let book = UsBook::new(false, 8, 0);
+    let root = book.root(0)?;
+    let worked = moved(&book, &root, 0, Activity::Serve, 1500)?.ok_or("refused")?;
+    assert_eq!(rt; worked.week.sums.today(), 60);
+    assert_eq!(rt; worked.week.sums.total(), 1500);
+    let rested = moved(&book, &worked, 1500, Activity::Off, 2039)?.ok_or("refused")?;
+    assert_eq!(rt; rested.week.sums.total(), 1500);
+    let restarted = moved(&book, &rested, 3539, Activity::Off, 1)?.ok_or("refused")?;
+    assert_eq!(rt; restarted.week.sums.total(), 0);
+    Ok(())
+}
+
 /// The numbers of that state: an hour of driving since the rest, without a break and in this day.
 const NUMBERS: [u32; 22] = [
     0, 0, 0, 60, 60, 60, 60, 60, 60, 0, 0, 0, 60, 0, 60, 0, 0, 0, 0, 0, 0, 0,

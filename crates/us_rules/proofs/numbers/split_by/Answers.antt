@@ -1,7 +1,6 @@
-use Rattle.std.proofs.Common.{◌≡◌, ℕ, true, false, None, Some, refl, sym, ◌∙◌, ap, subst}
-use Rattle.sleeper_split.specs.declared.count.SplitCount.{SplitCount}
+use Rattle.std.proofs.Common.{◌≡◌, true, false, sym, ◌∙◌, subst}
 use Rattle.sleeper_split.specs.Machine.{IsSplitCount, made}
-use Rattle.us_rules.specs.Numbers.{waiting_of, split_of, is_count}
+use Rattle.us_rules.specs.Numbers.{split_of}
 use Rattle.us_rules.specs.NumberLaws.{no_split}
 use Rattle.us_rules.proofs.numbers.split_by.Goals as goal
 

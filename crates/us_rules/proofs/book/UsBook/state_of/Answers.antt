@@ -1,9 +1,9 @@
-use Rattle.std.proofs.Common.{◌≡◌, ℕ, ◌+◌, true, false, List, length, drop, None, Some, refl, sym, ◌∙◌, ap, subst}
+use Rattle.std.proofs.Common.{◌≡◌, ◌+◌, true, false, drop, None, Some, refl, sym, ◌∙◌, ap, subst}
 use Rattle.std.specs.Prelude.{if◌then◌else◌}
 use Rattle.day_sums.specs.Sums.{AreSums}
 use Rattle.us_rules.specs.declared.state.UsState.{UsState}
 use Rattle.us_rules.specs.Machine.{break_made, week_made, us_made}
-use Rattle.us_rules.specs.Numbers.{split_of, state_by, holds_break_week, us_state_of}
+use Rattle.us_rules.specs.Numbers.{split_of, state_by, holds_break_week}
 use Rattle.us_rules.specs.NumberLaws.{split_means, no_sums, held_state, rest_all, then_if}
 use Rattle.us_rules.specs.States.{week_counted}
 use Rattle.us_rules.proofs.book.UsBook.state_of.Goals as goal
