@@ -5,6 +5,7 @@ ghost use Rattle.tour_model.specs.declared.limits.TheConstants.{STEP_LIMIT};
 ghost use Rattle.tour_model.specs.Tour.{IsTour};
 ghost use Rattle.tour_model.specs.Word.{word_length};
 ghost use Rattle.label_state.specs.declared.layers.TheConstants.{LAYER_LIMIT};
+ghost use Rattle.label_state.specs.Buckets.{places_of};
 ghost use Rattle.label_state.specs.Layers.{last_step, last_layer, label_count, labels_of};
 ghost use Rattle.cert_text.specs.Problem.{is_better, later};
 ghost use Rattle.cert_text.specs.Planning.{problem_of, minute_of, state_at};
@@ -83,11 +84,13 @@ pub fn better<B: RuleBook>(
     stands_for(book, tour, a, b, step)
 }
 
-/// The place of the first label of the layer that is better than this one.
+/// The place of the first label of the layer that is better than this one. Only the labels of the
+/// same progress, at these places, are looked at.
 fn first_cover<B: RuleBook>(
     book: &B,
     tour: &Tour,
     layer: &[Kept<B::State>],
+    places: &[u32],
     label: &Label<B::State>,
     step: u32,
 ) -> Option<u32>
@@ -96,13 +99,13 @@ fn first_cover<B: RuleBook>(
     requires layer { AreStatesAt (state_at tour.now (B.is_state_at book.now)) step (labels_of layer.now) }
     requires label { B.is_state_at book.now label.now.state (minute_of tour.now step) }
     requires step { step < STEP_LIMIT }
-    requires size { length layer.now ≤ LAYER_LIMIT }
+    requires places { places.now ≡ places_of label.now.progress layer.now }
     ensures { IsCoverSought (problem_of tour.now (B.advances_of book.now)
         (B.covering book.now) (B.idles_of book.now)) step (labels_of layer.now) label.now result }
 {
-    for (index, kept) in layer.iter().enumerate() {
-        if better(book, tour, &kept.label, label, step) {
-            return Some(index as u32);
+    for place in places {
+        if better(book, tour, &layer[*place as usize].label, label, step) {
+            return Some(*place);
         }
     }
     None
@@ -127,7 +130,8 @@ pub fn offer<B: RuleBook>(
     ensures err { OnErr result (layers.new ≡ layers.old) }
 {
     let step = layers.depth() - 1;
-    if let Some(index) = first_cover(book, tour, layers.layer(step), &kept.label, step) {
+    let places = layers.places(kept.label.progress);
+    if let Some(index) = first_cover(book, tour, layers.layer(step), places, &kept.label, step) {
         return Ok(Offered::Covered { index });
     }
     layers.keep(kept)?;

@@ -10,7 +10,8 @@ use Rattle.label_state.specs.declared.kept.Kept.{Kept}
 use Rattle.cert_text.specs.Problem.{later}
 use Rattle.label_search.specs.Sound.{StandsBefore, AreOrdered}
 use Rattle.label_search.specs.Searching.{AreSmall, rank_of, depart_rank, progress_rank}
-use Rattle.label_search.proofs.Places.{one_of_place, place_of_one, get_of, place_within, one_of_permuted}
+use Rattle.label_state.specs.LayerLaws.{place_of_one}
+use Rattle.label_search.proofs.Places.{one_of_place, get_of, place_within, one_of_permuted}
 
 -- neighbours that tie by n rise by m, and so do all that tie
 ties_gap : {X : Type 0} (m n : X → ℕ) (xs : List X) → IsNonDecreasingBy n xs → ((k : ℕ) (d : X) → k + 1 < length xs → n (get_or xs k d) ≡ n (get_or xs (k + 1) d) → m (get_or xs k d) ≤ m (get_or xs (k + 1) d)) →

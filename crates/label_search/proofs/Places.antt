@@ -1,5 +1,5 @@
 -- Elements of lists and their places.
-use Rattle.std.proofs.Common.{◌≡◌, ℕ, ◌<◌, zero, suc, List, [], ◌∷◌, length, take, get_or, refl, ap, subst, arith, inl, inr}
+use Rattle.std.proofs.Common.{◌≡◌, ℕ, ◌<◌, zero, suc, List, [], ◌∷◌, length, take, get_or, refl, subst, arith, inl, inr}
 use Rattle.std.specs.Prelude.{None, Some, slice_get, All}
 use Rattle.std.specs.List.Sorted.{IsPermutation}
 use Rattle.std.proofs.lemmas.List.Sorted.{All-permutation}
@@ -10,10 +10,6 @@ pub one_of_place : {X : Type 0} (xs : List X) (i : ℕ) (x : X) → slice_get xs
 one_of_place [] i x h = absurd (let z : None ≡ Some x = h in cc)
 one_of_place (y ∷ xs) zero x h = inl (let e : Some y ≡ Some x = h in cc)
 one_of_place (y ∷ xs) (suc i) x h = inr (one_of_place xs i x h)
-
-pub place_of_one : {X : Type 0} (xs : List X) (x : X) → IsOneOf xs x → (i : ℕ) × (slice_get xs i ≡ Some x)
-place_of_one [] x h = absurd h
-place_of_one (y ∷ xs) x h = elim h [ inl e ↦ (0, ap Some e) | inr t ↦ (let q = place_of_one xs x t in (suc q.0, q.1)) ]
 
 pub get_of : {X : Type 0} (xs : List X) (i : ℕ) (x d : X) → slice_get xs i ≡ Some x → get_or xs i d ≡ x
 get_of [] i x d h = absurd (let z : None ≡ Some x = h in cc)

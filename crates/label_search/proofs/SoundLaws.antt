@@ -20,11 +20,11 @@ use Rattle.cert_text.specs.ProblemLaws.{IsProblem}
 use Rattle.cert_text.specs.BetterLaws.{grown_from, better_itself}
 use Rattle.label_state.specs.declared.kept.Kept.{Kept}
 use Rattle.label_state.specs.Layers.{labels_of, label_layers, label_count}
-use Rattle.label_state.specs.LayerLaws.{layer_labels, label_kept}
+use Rattle.label_state.specs.LayerLaws.{layer_labels, label_kept, place_of_one}
 use Rattle.label_state.specs.Path.{parent_of, acts_of, marks_of, kept_at, root_of, path_of, way_marks}
 use Rattle.label_search.specs.Sound.{IsSound, IsReachable, AreDistinct, HasLabels}
 use Rattle.label_search.specs.Ways.{IsWay}
-use Rattle.label_search.proofs.Places.{one_of_place, place_of_one}
+use Rattle.label_search.proofs.Places.{one_of_place}
 use Rattle.std.proofs.lemmas.List.Sums.{sum_by-cons}
 
 -- one more step of a way

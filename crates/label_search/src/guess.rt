@@ -21,12 +21,12 @@ use std::alloc::Global;
 use tour_model::{STEP_LIMIT, Tour};
 
 /// The most labels that the guess keeps of a step.
-const BEAM: usize = 100;
+const BEAM: usize = 10;
 
 /// How many labels the guess may grow for each label of the search's budget.
 const WORK: u32 = 10;
 
-/// A label, and the step at which it would end with no rules.
+/// A label, and the step at which it might end, by which it is ranked.
 #[derive(Drop)]
 struct Ranked<S> {
     ends: u32,
@@ -63,7 +63,49 @@ fn root_beam<B: RuleBook>(
     Ok(beam)
 }
 
-/// Adds the successors of a label that may still take less than the best.
+/// What is left of a tour's work, in steps.
+#[derive(Clone, Copy)]
+struct Left {
+    driving: u32,
+    service: u32,
+}
+
+/// What is left of the tour's work after so much progress.
+fn work_left(tour: &Tour, progress: u32) -> Left {
+    let mut driving: u32 = 0;
+    let mut service: u32 = 0;
+    let mut done = progress;
+    for stop in tour.stops.items() {
+        let driven = stop.drive.min(done);
+        let served = stop.service.min(done - driven);
+        driving = driving.saturating_add(stop.drive - driven);
+        service = service.saturating_add(stop.service - served);
+        done -= driven + served;
+    }
+    Left { driving, service }
+}
+
+/// The step at which a label that is at this step might end at the earliest, as far as is known
+/// without a search: not before `eta`, nor before its work and the rests that it still owes are done.
+fn ends_about<B: RuleBook>(
+    book: &B,
+    tour: &Tour,
+    label: &Label<B::State>,
+    step: u32,
+    eta: u32,
+) -> u32
+    requires { IsTour tour.now }
+{
+    let left = work_left(tour, label.progress);
+    let driving = left.driving.saturating_mul(tour.grid);
+    let service = left.service.saturating_mul(tour.grid);
+    let rest = book.least_rest(&label.state, driving, service);
+    let rests = rest.saturating_add(tour.grid - 1) / tour.grid;
+    let work = left.driving.saturating_add(left.service);
+    eta.max(step.saturating_add(work).saturating_add(rests))
+}
+
+/// Adds the successors of a label that might take less than the best.
 fn grow_label<B: RuleBook>(
     alloc: Global,
     book: &B,
@@ -88,18 +130,17 @@ fn grow_label<B: RuleBook>(
     let _ = roots;
     for grown in successors(alloc, book, tour, label, step)?.into_vec() {
         let label = grown.label;
-        let eta = tour.eta(step + 1, label.progress);
-        if is_worth_keeping(best, label.depart, eta) {
-            list.push(Ranked {
-                ends: eta.unwrap_or(0),
-                label,
-            })?;
+        if let Some(eta) = tour.eta(step + 1, label.progress) {
+            let ends = ends_about(book, tour, &label, step + 1, eta);
+            if is_worth_keeping(best, label.depart, Some(ends)) {
+                list.push(Ranked { ends, label })?;
+            }
         }
     }
     Ok(())
 }
 
-/// The successors of the labels that may still take less than the best.
+/// The successors of the labels that might take less than the best.
 fn grow_beam<B: RuleBook>(
     alloc: Global,
     book: &B,
@@ -147,7 +188,7 @@ fn is_covered<B: RuleBook>(
     false
 }
 
-/// The labels that would end first, none of which is better than another, and not too many.
+/// The labels that might end first, none of which is better than another, and not too many.
 fn thinned<B: RuleBook>(
     alloc: Global,
     book: &B,

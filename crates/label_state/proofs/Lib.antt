@@ -1,1 +1,2 @@
 mod LayersLaws
+mod BucketSteps

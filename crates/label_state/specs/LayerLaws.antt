@@ -1,5 +1,6 @@
 -- Layers that grow.
 use Rattle.std.proofs.Common.{◌≡◌, ℕ, ◌+◌, ◌-◌, ◌<◌, ◌≤◌, List, [], ◌∷◌, ◌++◌, length, take, sym, ◌∙◌, ap, subst, arith, zero, suc, length-append, set, inl, inr}
+use Rattle.std.specs.Prelude.{None, Some, slice_get}
 use Rattle.std.proofs.lemmas.Bool.{cases_lt}
 use Rattle.std.proofs.lemmas.List.{length-map, set_split, length-set, get_or-map, drop_all, get_or_past, get_or_push, get_or_append_left, get_or-set_same, get_or-set_other}
 use Rattle.std.proofs.lemmas.List.Sums.{sum_by-set, sum_by-append, sum_by-cons}
@@ -75,3 +76,17 @@ pub layer_within : {X : Type 0} (layers : List (List X)) (step : ℕ) → length
 layer_within [] step = omega arith
 layer_within (ys ∷ layers) zero = let e = sum_by-cons length ys layers in let r : length ys ≤ label_count (ys ∷ layers) = omega arith in r
 layer_within (ys ∷ layers) (suc step) = let e = sum_by-cons length ys layers in let h = layer_within layers step in let r : length (layer_at layers step) ≤ label_count (ys ∷ layers) = omega arith in r
+
+-- ---- elements and their places
+
+pub place_of_one : {X : Type 0} (xs : List X) (x : X) → IsOneOf xs x → (i : ℕ) × (slice_get xs i ≡ Some x)
+place_of_one [] x h = absurd h
+place_of_one (y ∷ xs) x h = elim h [ inl e ↦ (0, ap Some e) | inr t ↦ (let q = place_of_one xs x t in (suc q.0, q.1)) ]
+
+-- those of a front are those below its length
+pub place_taken : {X : Type 0} (j : ℕ) (xs : List X) (i : ℕ) (x : X) → slice_get (take j xs) i ≡ Some x → (i < j) × (slice_get xs i ≡ Some x)
+place_taken zero [] i x h = absurd (let z : None ≡ Some x = h in cc)
+place_taken zero (y ∷ xs) i x h = absurd (let z : None ≡ Some x = h in cc)
+place_taken (suc j) [] i x h = absurd (let z : None ≡ Some x = h in cc)
+place_taken (suc j) (y ∷ xs) zero x h = (omega arith, h)
+place_taken (suc j) (y ∷ xs) (suc i) x h = let q = place_taken j xs i x h in let l = q.0 in (omega arith, q.1)

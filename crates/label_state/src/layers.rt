@@ -2,8 +2,10 @@
 ghost use Rattle.std.specs.Prelude.{◌≡◌, ◌<◌, ◌≤◌, [], ◌∷◌, ◌++◌, length, OnOk, OnErr};
 ghost use Rattle.tour_model.specs.Layer.{layer_at};
 ghost use Rattle.label_state.specs.declared.layers.TheConstants.{LAYER_LIMIT};
-ghost use Rattle.label_state.specs.Layers.{with_kept, label_count};
+ghost use Rattle.label_state.specs.Layers.{last_layer, with_kept, label_count};
+ghost use Rattle.label_state.specs.Buckets.{places_of};
 
+use crate::buckets::Buckets;
 use crate::kept::Kept;
 use duty_core::NoMemory;
 use std::alloc::Global;
@@ -18,18 +20,19 @@ pub const LAYER_LIMIT: u32 = 999_999;
 pub struct Layers<S> {
     layers: Vec<Vec<Kept<S>>>,
     kept: u32,
+    by_progress: Buckets,
 }
 
 impl<S> Model for Layers<S> {
     ghost use Rattle.std.specs.Prelude.{List};
     ghost use Rattle.label_state.specs.declared.kept.Kept.{Kept};
-    ghost use Rattle.label_state.specs.Plain.{plain, AreCounted};
+    ghost use Rattle.label_state.specs.Plain.{plain, AreHeld};
 
     ghost Value = { List (List (Kept S)) };
 
     ghost view = { λ l. plain l.layers.items };
 
-    ghost invariant = { λ l. AreCounted (plain l.layers.items) l.kept };
+    ghost invariant = { λ l. AreHeld (plain l.layers.items) l.kept l.by_progress };
 }
 
 impl<S: Drop> Layers<S> {
@@ -40,6 +43,7 @@ impl<S: Drop> Layers<S> {
         Layers {
             layers: Vec::new(alloc),
             kept: 0,
+            by_progress: Buckets::new(alloc),
         }
     }
 
@@ -60,8 +64,15 @@ impl<S: Drop> Layers<S> {
         ensures ok { OnOk result (self.new ≡ with_kept self.old kept) }
         ensures err { OnErr result (self.new ≡ self.old) }
     {
-        let last = self.layers.len() - 1;
-        self.layers[last].push(kept)?;
+        let depth = self.layers.len() as u32;
+        let progress = kept.label.progress;
+        let layer = &mut self.layers[depth as usize - 1];
+        let place = layer.len();
+        layer.push(kept)?;
+        if let Err(fault) = self.by_progress.add(depth, progress, place as u32) {
+            self.layers[depth as usize - 1].truncate(place);
+            return Err(fault);
+        }
         self.kept += 1;
         Ok(())
     }
@@ -80,6 +91,14 @@ impl<S: Drop> Layers<S> {
         ensures few { label_count self.now ≤ LAYER_LIMIT }
     {
         self.kept
+    }
+
+    /// The places of the labels of the last layer that have this progress, in order.
+    pub fn places(&self, progress: u32) -> &[u32]
+        requires { 0 < length self.now }
+        ensures { result.now ≡ places_of progress (last_layer self.now) }
+    {
+        self.by_progress.places(self.layers.len() as u32, progress)
     }
 
     /// The layer of the step `k`.

@@ -1,6 +1,7 @@
 //! The labels that a search keeps, in layers: one layer for each step.
 #![tactic(auto)]
 
+mod buckets;
 mod kept;
 mod layers;
 

@@ -95,6 +95,20 @@ mod tests {
         }
     }
 
+    /// Two roots, and one label that grew from the second of them.
+    fn two_layers(alloc: Global, mark: Mark) -> Result<Layers<u32>, NoMemory>
+        ensures parents { IfOk result (λ layers. HaveParents 2 layers) }
+        ensures there { IfOk result (λ layers. 0 < length (layer_at layers 1)) }
+    {
+        let mut layers = Layers::new(alloc);
+        layers.push_layer(alloc)?;
+        layers.keep(kept(0, Activity::Off, None))?;
+        layers.keep(kept(1, Activity::Off, None))?;
+        layers.push_layer(alloc)?;
+        layers.keep(kept(1, Activity::Drive, Some(mark)))?;
+        Ok(layers)
+    }
+
     #[test]
     fn goes_back_to_the_second_root(rt: HostRuntime) -> Result<(), Fail> {
         let alloc = rt.alloc();
@@ -109,20 +123,10 @@ mod tests {
             },
             Root { state: 0, marks },
         ];
-        let mut layers = Layers::new(alloc);
-        layers.push_layer(alloc)?;
-        layers.keep(kept(0, Activity::Off, None))?;
-        layers.keep(kept(1, Activity::Off, None))?;
-        layers.push_layer(alloc)?;
-        layers.keep(kept(1, Activity::Drive, Some(split)))?;
-        layers.push_layer(alloc)?;
-        layers.keep(kept(0, Activity::Serve, None))?;
-        let place = Place { layer: 2, index: 0 };
+        let layers = two_layers(alloc, split)?;
+        let place = Place { layer: 1, index: 0 };
         let schedule = rebuild(alloc, &layers, roots.as_slice(), place)?;
-        assert_eq!(rt;
-            schedule.steps.items(),
-            [Activity::Drive, Activity::Serve].as_slice()
-        );
+        assert_eq!(rt; schedule.steps.items(), [Activity::Drive].as_slice());
         assert_eq!(rt; schedule.marks.items(), [deferred, split].as_slice());
         Ok(())
     }

@@ -1,9 +1,7 @@
-use Rattle.std.proofs.Common.{take}
-use Rattle.label_state.specs.Layers.{labels_of}
 use Rattle.cert_text.specs.Planning.{problem_of}
-use Rattle.cert_text.specs.Cover.{NoneCovers}
+use Rattle.label_dominance.proofs.OfferLaws.{NoneAt}
 use Rattle.label_dominance.proofs.dominance.first_cover.Given as goal
 
-abbrev pub invariant-loop-index : goal.invariant-loop-index
-invariant-loop-index g l =
-    NoneCovers (problem_of l.tour (g.B.RuleBook.advances_of l.book) (g.B.RuleBook.covering l.book) (g.B.RuleBook.idles_of l.book)) l.step (take l.index (labels_of l.layer)) l.label
+abbrev pub invariant-loop-place : goal.invariant-loop-place
+invariant-loop-place g l =
+    NoneAt (problem_of l.tour (g.B.RuleBook.advances_of l.book) (g.B.RuleBook.covering l.book) (g.B.RuleBook.idles_of l.book)) l.step l.layer l.places l.label l.place-index

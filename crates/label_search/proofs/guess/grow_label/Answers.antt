@@ -1,4 +1,4 @@
-use Rattle.std.proofs.Common.{◌≡◌, ◌+◌, length, sym, ◌∙◌, ap, subst, arith}
+use Rattle.std.proofs.Common.{◌≡◌, ◌+◌, length, sym, ◌∙◌, subst, arith}
 use Rattle.std.proofs.lemmas.Iterator.Adapters.{YieldsList-from_vec}
 use Rattle.std.proofs.lemmas.Iterator.Consumers.{YieldsList-turn}
 use Rattle.duty_core.specs.Params.{allows, BeginsUnit}
@@ -8,14 +8,14 @@ use Rattle.rule_core.specs.OneOf.{one_of_item}
 use Rattle.tour_model.specs.declared.tour.Tour.{Tour}
 use Rattle.tour_model.specs.Tour.{IsTour}
 use Rattle.tour_model.specs.Word.{word_length}
+use Rattle.cert_text.specs.Problem.{HasEta}
 use Rattle.cert_text.specs.Planning.{problem_of, state_at, minute_of}
 use Rattle.cert_text.specs.Cover.{IsLabelAt}
 use Rattle.cert_text.specs.ProblemLaws.{IsProblem}
 use Rattle.cert_text.specs.ProblemOf.{problem_laws}
-use Rattle.label_search.specs.Searching.{IsRootState, is_useful}
+use Rattle.label_search.specs.Searching.{IsRootState}
 use Rattle.label_search.specs.Ways.{AreRankedReached}
 use Rattle.label_search.proofs.AnswerLaws.{root_state}
-use Rattle.label_search.proofs.GatherLaws.{useful_has_eta}
 use Rattle.label_search.proofs.GuessLaws.{grown_reached, ranked_push}
 use Rattle.label_search.proofs.guess.grow_label.Goals as goal
 use Rattle.label_search.proofs.guess.grow_label.Given.{Over}
@@ -58,8 +58,8 @@ successors-requires-clause-state g c = c.requires.label.at.state
 pub successors-requires-clause-progress : goal.successors-requires-clause-progress
 successors-requires-clause-progress g c = c.requires.label.at.progress
 
-pub eta-eta-requires-clause-progress : goal.eta-eta-requires-clause-progress
-eta-eta-requires-clause-progress g c = (label_of g (goal.at.eta-eta-requires-clause-progress g c).In-Some).progress
+pub eta-requires-clause-progress : goal.eta-requires-clause-progress
+eta-requires-clause-progress g c = (label_of g (goal.at.eta-requires-clause-progress g c).In-Some).progress
 
 pub loop-grown-preserved-in_ok-push : goal.loop-grown-preserved-in_ok-push
 loop-grown-preserved-in_ok-push g c =
@@ -73,12 +73,12 @@ loop-grown-preserved-in_ok-push g c =
     let step = c.args.step in
     let e : tour.start ≡ minute_of tour 0 = omega arith in
     let states = root_state is_state c.args.roots.now 0 (λ r o. subst (g.B.RuleBook.is_state_at book r.state) e (c.requires.roots r o)) in
-    let useful = sym (ap (is_useful c.args.best l.depart) c.eta-eta.ensures.value) ∙ (sym c.is_worth_keeping.ensures ∙ c.if-is_worth_keeping.true) in
+    let eta : HasEta problem (step + 1) l = record { eta = c.in-Some-eta.eta; is = sym c.eta.ensures.value ∙ c.in-Some-eta.is } in
     let o = subst (λ ys. IsOneOf ys c.in-Some.grown) (c.into_vec-grown-items.ensures ∙ c.in_ok-successors.ensures.exact) (turn_of g some) in
     record {
       can = tt;
       finite = tt;
       reached = subst (AreRankedReached problem is_state (allows tour.params) starts (step + 1)) (sym c.in_ok-push.ensures.items)
           (ranked_push problem is_state (allows tour.params) starts (step + 1) c.loop-grown.list.items _ c.loop-grown.invariant.reached
-          (grown_reached problem is_state (allows tour.params) starts (laws g book tour c.requires.params c.requires.tour) states step c.args.label.now c.in-Some.grown c.requires.label o (useful_has_eta problem c.args.best (step + 1) l useful) (label_of g some)));
+          (grown_reached problem is_state (allows tour.params) starts (laws g book tour c.requires.params c.requires.tour) states step c.args.label.now c.in-Some.grown c.requires.label o eta (label_of g some)));
     }
