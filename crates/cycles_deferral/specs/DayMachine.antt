@@ -35,11 +35,11 @@ pub record IsCanadaDays (s : CanadaDays) : Type 0 where
   pub lost_before : s.before ≤ lost_limit s.way
   pub run : IsShortOf s.rest s.today.short s.yesterday.short
 
--- what is asked whether it is lawful: the days with a minute of duty, which may have made a lost minute of each short one
+-- what is asked whether it is lawful: the days with minutes of duty, the first of which may have made a lost minute of each short one
 pub record IsAtDuty (s : CanadaDays) : Type 0 where
   pub minutes : s.minute ≤ DAY_MINUTES
   pub no_rest : s.rest ≡ 0
-  pub lost_today : s.today.lost ≤ DAY_MINUTES
+  pub lost_today : s.today.lost ≤ DAY_MINUTES + DAY_MINUTES
   pub lost_yesterday : s.yesterday.lost ≤ DAY_MINUTES
   pub short_today : s.today.short ≡ 0
   pub short_yesterday : s.yesterday.short ≡ 0

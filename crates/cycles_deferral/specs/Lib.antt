@@ -5,10 +5,12 @@ pub mod LostSteps
 pub mod Tracks
 pub mod Knows
 pub mod DeferLaws
+pub mod DayRuns
 pub mod DaySteps
 pub mod DayPaths
 pub mod DaysExact
 pub mod Counts
+pub mod CycleRuns
 pub mod CycleExact
 pub mod CountryDays
 pub mod Room

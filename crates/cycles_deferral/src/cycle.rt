@@ -4,7 +4,8 @@ ghost use Rattle.duty_core.specs.CaCycle.{cycle_days, cycle_reset, cycle_limit};
 ghost use Rattle.duty_core.specs.declared.limits.TheConstants.{DAY_MINUTES, CA_CYCLE_2_RESET};
 ghost use Rattle.day_sums.specs.Sums.{IsDays, today};
 ghost use Rattle.day_sums.specs.Counted.{turned};
-ghost use Rattle.cycles_deferral.specs.CycleMachine.{IsCycleCount, HasRoom, cycle_made, fresh_cycle, cycle_rested, cycle_worked, keeps_cycle, cycle_after};
+ghost use Rattle.cycles_deferral.specs.CycleMachine.{IsCycleCount, HasRoom, cycle_made, fresh_cycle, keeps_cycle, cycle_after};
+ghost use Rattle.cycles_deferral.specs.CycleRuns.{HasRoomFor, cycle_at_once, cycle_run, cycle_rested_run, cycle_worked_run, worked_at_once};
 
 use day_sums::DaySums;
 use duty_core::{
@@ -15,10 +16,10 @@ use duty_core::{
 
 /// The time since the end of the last day off with which no day off lies in the fortnight before a
 /// minute any more, in minutes (SOR/2005-313, section 25).
-const SINCE_LIMIT: u32 = CA_DAY_OFF_WITHIN - CA_DAY_OFF + 1;
+pub const SINCE_LIMIT: u32 = CA_DAY_OFF_WITHIN - CA_DAY_OFF + 1;
 
 /// More duty without a day off than driving allows, in minutes (SOR/2005-313, section 27).
-const WITHOUT_LIMIT: u32 = CA_WITHOUT_DAY_OFF_LIMIT + 1;
+pub const WITHOUT_LIMIT: u32 = CA_WITHOUT_DAY_OFF_LIMIT + 1;
 
 /// The counts of a cycle: the duty of its days, the time since the last day off, and in cycle 2 the
 /// duty without one (SOR/2005-313, sections 24 to 28). Which values there are is told by
@@ -59,12 +60,48 @@ impl CycleCount {
         ensures counts { result ≡ cycle_after self act new_day }
         ensures kept { IfSome result IsCycleCount }
     {
+        self.on(act, new_day, 1)
+    }
+
+    /// The counts after `n` more equal minutes of a day, at least one, of which only the first may
+    /// begin it: what `n` calls of `unit` give. `None` exactly where one of them gives none. The
+    /// duty of the day, that of these minutes counted, must be at most 1,440 minutes.
+    #[tactic(auto, using(crate::specs::CycleRuns::cycle_run_at_once))]
+    pub fn run(self, act: Activity, new_day: bool, n: u32) -> Option<CycleCount>
+        requires good { IsCycleCount self }
+        requires some { 1 ≤ n }
+        requires room { HasRoomFor self act new_day n }
+        ensures counts { result ≡ cycle_run self act new_day n }
+        ensures kept { IfSome result IsCycleCount }
+    {
+        self.on(act, new_day, n)
+    }
+
+    /// The counts after `n` more minutes, all at once.
+    fn on(self, act: Activity, new_day: bool, n: u32) -> Option<CycleCount>
+        requires good { IsCycleCount self }
+        requires some { 1 ≤ n }
+        requires room { HasRoomFor self act new_day n }
+        ensures counts { result ≡ cycle_at_once self act new_day n }
+        ensures kept { IfSome result IsCycleCount }
+    {
         if is_rest(act) {
-            return Some(self.rested(new_day));
+            return Some(self.rested(new_day, n));
         }
-        let after = self.worked(new_day);
+        self.at_duty(act, new_day, n)
+    }
+
+    /// The counts after `n` more minutes of duty, where driving is allowed in each of them.
+    fn at_duty(self, act: Activity, new_day: bool, n: u32) -> Option<CycleCount>
+        requires good { IsCycleCount self }
+        requires some { 1 ≤ n }
+        requires room { today (turned new_day self.sums) + n ≤ DAY_MINUTES }
+        ensures counts { result ≡ worked_at_once self act new_day n }
+        ensures kept { IfSome result IsCycleCount }
+    {
+        let after = self.worked(new_day, n);
         let drives = matches!(act, Activity::Drive);
-        if drives && !(self.since < SINCE_LIMIT && after.keeps_limits()) {
+        if drives && !(self.since + (n - 1) < SINCE_LIMIT && after.keeps_limits()) {
             return None;
         }
         Some(after)
@@ -142,13 +179,13 @@ impl CycleCount {
         sums
     }
 
-    /// One more minute of rest.
-    fn rested(self, new_day: bool) -> CycleCount
+    /// `n` more minutes of rest.
+    fn rested(self, new_day: bool, n: u32) -> CycleCount
         requires good { IsCycleCount self }
-        ensures counts { result ≡ cycle_rested self new_day }
+        ensures counts { result ≡ cycle_rested_run n self new_day }
         ensures kept { IsCycleCount result }
     {
-        let rest = self.rest + 1;
+        let rest = self.rest.saturating_add(n);
         let reset = reset_of(self.cycle);
         let mut sums = self.turned(new_day);
         if reset <= rest {
@@ -160,7 +197,7 @@ impl CycleCount {
             rest: rest.min(reset),
             sums,
             since: if short {
-                (self.since + 1).min(SINCE_LIMIT)
+                self.since.saturating_add(n).min(SINCE_LIMIT)
             } else {
                 0
             },
@@ -168,22 +205,22 @@ impl CycleCount {
         }
     }
 
-    /// One more minute of duty.
-    fn worked(self, new_day: bool) -> CycleCount
+    /// `n` more minutes of duty.
+    fn worked(self, new_day: bool, n: u32) -> CycleCount
         requires good { IsCycleCount self }
-        requires room { today (turned new_day self.sums) + 1 ≤ DAY_MINUTES }
-        ensures counts { result ≡ cycle_worked self new_day }
+        requires room { today (turned new_day self.sums) + n ≤ DAY_MINUTES }
+        ensures counts { result ≡ cycle_worked_run n self new_day }
         ensures kept { IsCycleCount result }
     {
         let mut sums = self.turned(new_day);
-        sums.add(1);
+        sums.add(n);
         CycleCount {
             cycle: self.cycle,
             rest: 0,
             sums,
-            since: (self.since + 1).min(SINCE_LIMIT),
+            since: (self.since + n).min(SINCE_LIMIT),
             without: if self.cycle as u32 == CA_CYCLE_2 {
-                (self.without + 1).min(WITHOUT_LIMIT)
+                (self.without + n).min(WITHOUT_LIMIT)
             } else {
                 0
             },

@@ -1,7 +1,8 @@
 //! Lost minutes of days, and deferral.
 ghost use Rattle.std.specs.Prelude.{◌≡◌, ◌+◌, ◌<◌, ◌≤◌, ◌↔◌, ◌≤ℤ◌, pos, negsuc, true, IsSome, IfSome};
 ghost use Rattle.duty_core.specs.declared.limits.TheConstants.{DAY_MINUTES, CA_LOST_LIMIT, CA_DEFERRED_LOST_LIMIT};
-ghost use Rattle.cycles_deferral.specs.DayMachine.{IsDayCount, IsShortOf, IsCanadaDays, IsAtDuty, lost_limit, days_made, fresh_days, days_turned, rested_day, days_rested, worked_day, days_worked, keeps_earlier, keeps_later, keeps_days, needed, mark_between, days_after};
+ghost use Rattle.cycles_deferral.specs.DayMachine.{IsDayCount, IsShortOf, IsCanadaDays, IsAtDuty, lost_limit, days_made, fresh_days, days_turned, days_begun, rested_day, worked_day, keeps_earlier, keeps_later, keeps_days, needed, mark_between, days_after};
+ghost use Rattle.cycles_deferral.specs.DayRuns.{days_at_once, days_run, days_rested_run, days_worked_run, worked_at_once};
 
 use duty_core::{
     Activity, CA_BLOCK_LEAST, CA_BOTH_LOST_LIMIT, CA_DEFERRED_LOST_LIMIT, CA_FULL_REST,
@@ -10,7 +11,7 @@ use duty_core::{
 
 /// The most rest that a deferral needs, in minutes: a full rest, and the most that is deferred
 /// (SOR/2005-313, section 16).
-const NEEDED_LIMIT: u32 = CA_FULL_REST + (CA_DEFERRED_LOST_LIMIT - CA_LOST_LIMIT);
+pub const NEEDED_LIMIT: u32 = CA_FULL_REST + (CA_DEFERRED_LOST_LIMIT - CA_LOST_LIMIT);
 
 /// What is counted of a day, in minutes.
 #[derive(Clone, Copy, Debug, PartialEq, Eq)]
@@ -74,15 +75,66 @@ impl CanadaDays {
         ensures days { result ≡ days_after self act new_day day }
         ensures kept { IfSome result (λ r. IsCanadaDays r.0) }
     {
+        self.on(act, new_day, day, 1)
+    }
+
+    /// The days after `n` more equal minutes of `day`, at least one, of which only the first may
+    /// begin that day: what `n` calls of `unit` give. `None` exactly where one of them gives none.
+    /// At most one of them chooses a mark, and that mark is given.
+    pub fn run(
+        self,
+        act: Activity,
+        new_day: bool,
+        day: Day,
+        n: u32,
+    ) -> Option<(CanadaDays, Option<Mark>)>
+        requires good { IsCanadaDays self }
+        requires day { negsuc 0 ≤ℤ day }
+        requires some { 1 ≤ n }
+        ensures days { result ≡ days_run self act new_day day n }
+        ensures kept { IfSome result (λ r. IsCanadaDays r.0) }
+    {
+        self.on(act, new_day, day, n)
+    }
+
+    /// The days after `n` more minutes, all at once.
+    fn on(
+        self,
+        act: Activity,
+        new_day: bool,
+        day: Day,
+        n: u32,
+    ) -> Option<(CanadaDays, Option<Mark>)>
+        requires good { IsCanadaDays self }
+        requires day { negsuc 0 ≤ℤ day }
+        requires some { 1 ≤ n }
+        ensures days { result ≡ days_at_once (days_begun new_day self) act day n }
+        ensures kept { IfSome result (λ r. IsCanadaDays r.0) }
+    {
         let begun = if new_day { self.turned() } else { self };
         if is_rest(act) {
-            return Some((begun.rested(), None));
+            return Some((begun.rested(n), None));
         }
-        let after = begun.worked();
+        begun.at_duty(day, n)
+    }
+
+    /// The days after `n` more minutes of duty in today, and the mark that is chosen at one of them.
+    #[tactic(auto, using(crate::specs::DayRuns::too_many))]
+    fn at_duty(self, day: Day, n: u32) -> Option<(CanadaDays, Option<Mark>)>
+        requires good { IsCanadaDays self }
+        requires day { negsuc 0 ≤ℤ day }
+        requires some { 1 ≤ n }
+        ensures days { result ≡ worked_at_once self day n }
+        ensures kept { IfSome result (λ r. IsCanadaDays r.0) }
+    {
+        if DAY_MINUTES < n {
+            return None;
+        }
+        let after = self.worked(n);
         if !after.is_lawful() {
             return None;
         }
-        Some((after, begun.mark(after, day)))
+        Some((after, self.mark(after, day)))
     }
 
     /// How the history may part its rest.
@@ -200,32 +252,34 @@ impl CanadaDays {
         }
     }
 
-    /// One more minute of rest today.
-    fn rested(self) -> CanadaDays
+    /// `n` more minutes of rest today.
+    fn rested(self, n: u32) -> CanadaDays
         requires good { IsCanadaDays self }
-        ensures days { result ≡ days_rested self }
+        requires some { 1 ≤ n }
+        ensures days { result ≡ days_rested_run n self }
         ensures kept { IsCanadaDays result }
     {
-        let rest = (self.rest + 1).min(NEEDED_LIMIT);
+        let rest = self.rest.saturating_add(n).min(NEEDED_LIMIT);
         CanadaDays {
-            minute: (self.minute + 1).min(DAY_MINUTES),
+            minute: self.minute.saturating_add(n).min(DAY_MINUTES),
             rest,
-            today: self.today.rested(rest, 1, true),
+            today: self.today.rested(rest, n, true),
             yesterday: self.yesterday.rested(rest, 0, self.reaches),
             ..self
         }
     }
 
-    /// One more minute of duty today, which ends the rest run in progress.
-    fn worked(self) -> CanadaDays
+    /// `n` more minutes of duty today, the first of which ends the rest run in progress.
+    fn worked(self, n: u32) -> CanadaDays
         requires good { IsCanadaDays self }
-        ensures days { result ≡ days_worked self }
+        requires few { n ≤ DAY_MINUTES }
+        ensures days { result ≡ days_worked_run n self }
         ensures asked { IsAtDuty result }
     {
         CanadaDays {
-            minute: (self.minute + 1).min(DAY_MINUTES),
+            minute: (self.minute + n).min(DAY_MINUTES),
             rest: 0,
-            today: self.today.worked(1),
+            today: self.today.worked(n),
             yesterday: self.yesterday.worked(0),
             reaches: false,
             ..self
@@ -298,10 +352,10 @@ impl DayCount {
         self.lost <= limit && self.longest <= NEEDED_LIMIT
     }
 
-    /// The day with one more minute of rest, where the run in progress has `rest` minutes with it:
-    /// `n` more of the day, and `holds` tells whether the run has a minute in the day.
+    /// The day with more rest, where the run in progress has `rest` minutes with it: `n` more of the
+    /// day, and `holds` tells whether the run has a minute in the day.
     fn rested(self, rest: u32, n: u32, holds: bool) -> DayCount
-        requires few { n ≤ 1 }
+        requires few { rest < NEEDED_LIMIT → n ≤ rest }
         requires short { self.short < CA_BLOCK_LEAST }
         ensures { result ≡ rested_day rest n holds self }
     {
@@ -322,7 +376,7 @@ impl DayCount {
 
     /// The day where duty ends the rest run in progress, with `n` minutes of that duty.
     fn worked(self, n: u32) -> DayCount
-        requires few { n ≤ 1 }
+        requires few { n ≤ DAY_MINUTES }
         requires lost { self.lost ≤ CA_DEFERRED_LOST_LIMIT }
         requires short { self.short < CA_BLOCK_LEAST }
         ensures { result ≡ worked_day n self }

@@ -170,6 +170,21 @@ fn days_have_parts(rt: HostRuntime) -> Result<(), Fail> {
     Ok(())
 }
 
+#[test]
+fn many_minutes_are_run_at_once(rt: HostRuntime) -> Result<(), Fail> {
+    let days = CanadaDays::fresh(RestWay::Defer);
+    let (late, mark) = days.run(Activity::Serve, true, 0, 960).ok_or("refused")?;
+    assert_eq!(rt; mark, Some(Mark::DeferDay { day: 0 }));
+    assert_eq!(rt; late.today().lost, 960);
+    assert!(rt; days.run(Activity::Serve, true, 0, 961).is_none());
+    let count = CycleCount::fresh(1);
+    let tired = count.run(Activity::Drive, true, 1440).ok_or("refused")?;
+    assert_eq!(rt; tired.sums().total(), 1440);
+    let rested = tired.run(Activity::Off, true, 2160).ok_or("refused")?;
+    assert_eq!(rt; rested.sums().total(), 0);
+    Ok(())
+}
+
 /// Whether a minute more of duty fits in the youngest day.
 fn has_room(sums: DaySums) -> bool
     ensures { result ≡ true → today sums < DAY_MINUTES }

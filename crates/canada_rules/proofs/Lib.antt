@@ -1,0 +1,2 @@
+mod SumLaws
+pub mod NextLaws

@@ -1,0 +1,44 @@
+use Rattle.std.proofs.Common.{◌≡◌, true, sym, ◌∙◌, ap, subst, arith, inl, inr}
+use Rattle.canada_rules.specs.Machine.{ca_may, day_made, calendar_made, ca_made}
+use Rattle.canada_rules.specs.Numbers.{split_of, days_of, cycle_of, is_count, are_days, is_cycle, fits_day}
+use Rattle.canada_rules.specs.NumberLaws.{let_through, held_back, no_state, parts_made, reads_state}
+use Rattle.canada_rules.proofs.book.CanadaBook.state_of.Goals as goal
+
+-- too few numbers, or no counts of split rests, no days or no counts of a cycle have them
+pub returns-in_err-split : goal.returns-in_err-split
+returns-in_err-split c =
+    let book = c.args.self.now in
+    let ns = c.args.numbers.now in
+    let none = held_back (is_count c.may_split.result (split_of ns)) (split_of ns) (sym c.split_by.ensures ∙ c.in_err-split.was) in
+    c.from_residual.ensures
+    ∙ no_state (ca_may book.berth book.way) book.way book.cycle book.day_start ns c.args.at (inr (inl (ap (λ m. is_count m (split_of ns)) (sym c.may_split.ensures) ∙ none)))
+
+pub returns-in_err-days : goal.returns-in_err-days
+returns-in_err-days c =
+    let book = c.args.self.now in
+    let ns = c.args.numbers.now in
+    let none = held_back (are_days book.way ns) (days_of book.way ns) (sym c.days_by.ensures ∙ c.in_err-days.was) in
+    c.from_residual-in_err-days.ensures ∙ no_state (ca_may book.berth book.way) book.way book.cycle book.day_start ns c.args.at (inr (inr (inl none)))
+
+pub returns-in_err-cycle : goal.returns-in_err-cycle
+returns-in_err-cycle c =
+    let book = c.args.self.now in
+    let ns = c.args.numbers.now in
+    let none = held_back (is_cycle (cycle_of book.cycle ns)) (cycle_of book.cycle ns) (sym c.cycle_by.ensures ∙ c.in_err-cycle.was) in
+    c.from_residual-in_err-cycle.ensures ∙ no_state (ca_may book.berth book.way) book.way book.cycle book.day_start ns c.args.at (inr (inr (inr none)))
+
+-- the parts are those of a state where they fit in the day
+pub returns : goal.returns
+returns c =
+    let book = c.args.self.now in
+    let ns = c.args.numbers.now in
+    let may = ca_may book.berth book.way in
+    let by = let_through (is_count c.may_split.result (split_of ns)) (split_of ns) c.in_ok-split.split (sym c.split_by.ensures ∙ c.in_ok-split.was) in
+    let days = let_through (are_days book.way ns) (days_of book.way ns) c.in_ok-days.days (sym c.days_by.ensures ∙ c.in_ok-days.was) in
+    let cycle = let_through (is_cycle (cycle_of book.cycle ns)) (cycle_of book.cycle ns) c.in_ok-cycle.cycle (sym c.cycle_by.ensures ∙ c.in_ok-cycle.was) in
+    let calendar = calendar_made (day_made c.item.result c.item-2.result) c.in_ok-days.days c.in_ok-cycle.cycle in
+    c.then_some.ensures
+    ∙ reads_state may book.way book.cycle book.day_start ns c.args.at (ca_made c.in_ok-split.split calendar) c.fits_day.result (omega arith)
+    (subst (λ m. is_count m (split_of ns) ≡ true) c.may_split.ensures by.0) days.0 cycle.0
+    (parts_made book.way book.cycle ns c.in_ok-split.split c.item.result c.item-2.result c.in_ok-days.days c.in_ok-cycle.cycle by.1 c.item.ensures c.item-2.ensures days.1 cycle.1)
+    (c.fits_day.ensures ∙ ap (λ n. fits_day n calendar) c.day_so_far.ensures)

@@ -1,0 +1,102 @@
+//! What is counted by days, where it may stand for others.
+ghost use Rattle.std.specs.Prelude.{◌≡◌, length};
+ghost use Rattle.day_sums.specs.Sums.{AreSums};
+ghost use Rattle.day_sums.specs.Counted.{turned};
+ghost use Rattle.cycles_deferral.specs.DayMachine.{IsCanadaDays, days_begun};
+ghost use Rattle.canada_rules.specs.Covers.{day_covers, days_cover, sums_within, sums_cover, day_off_covers, cycle_covers, calendar_covers};
+
+use crate::state::{Calendar, DayDuty};
+use cycles_deferral::{CanadaDays, CycleCount};
+use day_sums::DaySums;
+
+impl Calendar {
+    /// Whether what is counted by days here may stand for `other`, whatever comes next. `new_day`
+    /// tells whether the next minute begins a day.
+    pub(crate) fn covers(&self, other: &Calendar, new_day: bool) -> bool
+        requires good { IsCanadaDays self.now.days }
+        requires other_good { IsCanadaDays other.now.days }
+        ensures { result ≡ calendar_covers new_day self.now other.now }
+    {
+        self.day.begun(new_day).covers(other.day.begun(new_day))
+            && (days_cover(self.days, other.days, new_day)
+                && cycle_covers(&self.cycle, &other.cycle, new_day))
+    }
+}
+
+impl DayDuty {
+    /// Whether driving and duty of the day are no more.
+    fn covers(self, other: DayDuty) -> bool
+        ensures { result ≡ day_covers self other }
+    {
+        self.driving <= other.driving && self.duty <= other.duty
+    }
+}
+
+/// Whether the days may stand for others.
+fn days_cover(a: CanadaDays, b: CanadaDays, new_day: bool) -> bool
+    requires good { IsCanadaDays a }
+    requires other_good { IsCanadaDays b }
+    ensures { result ≡ days_cover (days_begun new_day a) (days_begun new_day b) }
+{
+    a.covers(b, new_day)
+}
+
+/// Whether the counts of a cycle may stand for others.
+fn cycle_covers(a: &CycleCount, b: &CycleCount, new_day: bool) -> bool
+    ensures { result ≡ cycle_covers new_day a.now b.now }
+{
+    let same = a.cycle() == b.cycle();
+    let rested = b.rest() <= a.rest();
+    let sums = sums_cover(a.sums(), b.sums(), new_day);
+    let day_off = day_off_covers(a, b);
+    same && (rested && (sums && day_off))
+}
+
+/// Whether the day off is no longer ago, and duty without one no more.
+fn day_off_covers(a: &CycleCount, b: &CycleCount) -> bool
+    ensures { result ≡ day_off_covers a.now b.now }
+{
+    a.since() <= b.since() && a.without() <= b.without()
+}
+
+/// Whether of each number of youngest days the duty is no more, where a day may begin.
+fn sums_cover(a: DaySums, b: DaySums, new_day: bool) -> bool
+    ensures { result ≡ sums_cover new_day a b }
+{
+    if a.days() != b.days() {
+        return false;
+    }
+    let first = turned(a, new_day);
+    let other = turned(b, new_day);
+    sums_within(first.sums(), other.sums())
+}
+
+/// The sums where a day may begin.
+fn turned(sums: DaySums, new_day: bool) -> DaySums
+    ensures { result ≡ turned new_day sums }
+{
+    let mut sums = sums;
+    if new_day {
+        sums.roll_day();
+    }
+    sums
+}
+
+/// Whether of each number of youngest days the sum is no more.
+fn sums_within(a: &[u32], b: &[u32]) -> bool
+    requires same { length a.now ≡ length b.now }
+    requires kept { AreSums a.now }
+    requires other_kept { AreSums b.now }
+    ensures { result ≡ sums_within (length b.now) a.now b.now }
+{
+    let mut first = 0;
+    let mut other = 0;
+    for n in 0..b.len() {
+        first += a[n];
+        other += b[n];
+        if other < first {
+            return false;
+        }
+    }
+    true
+}
