@@ -1,0 +1,14 @@
+use Rattle.std.proofs.Common.{◌≡◌, ◌↔◌, [], sym, ◌∙◌, ap, subst}
+use Rattle.rule_core.specs.Refusal.{IsRefused}
+use Rattle.duty_core.specs.declared.params.Params.TheVariants.{Hvnl}
+use Rattle.hvnl_rules.specs.Machine.{hvnl_nexts, listed_state}
+use Rattle.hvnl_rules.specs.Steps.{nexts_step, hvnl_refuses}
+use Rattle.hvnl_rules.proofs.book.HvnlBookRuleBook.step.Goals as goal
+
+pub returns-clause-nexts : goal.returns-clause-nexts
+returns-clause-nexts c = c.nexts_of.ensures ∙ (ap listed_state c.in_ok-after_one.ensures ∙ sym (nexts_step c.args.state.now c.args.at c.args.act))
+
+pub returns-clause-refused : goal.returns-clause-refused
+returns-clause-refused c = λ first h marks timed e r.
+    subst (λ ns. (ns ≡ []) ↔ IsRefused Hvnl first h marks c.args.act) (sym (c.nexts_of.ensures ∙ (ap listed_state c.in_ok-after_one.ensures ∙ sym (nexts_step c.args.state.now c.args.at c.args.act))))
+    (subst (λ at. (hvnl_nexts c.args.state.now at c.args.act ≡ []) ↔ IsRefused Hvnl first h marks c.args.act) e (hvnl_refuses first h marks c.args.state.now c.args.act timed r))

@@ -1,0 +1,6 @@
+use Rattle.std.proofs.Common.{arith, refl}
+use Rattle.hvnl_rules.specs.NumberLaws.{needs_read}
+use Rattle.hvnl_rules.proofs.numbers.needs_in.Goals as goal
+
+pub loop-i-preserved : goal.loop-i-preserved
+loop-i-preserved c = needs_read c.args.numbers.now c.loop-i.i _ _ c.loop-i.needs.items c.push.new.self.items (omega arith) refl refl c.loop-i.invariant c.in_ok-push.ensures.items

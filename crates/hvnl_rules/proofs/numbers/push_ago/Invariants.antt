@@ -1,0 +1,6 @@
+use Rattle.std.proofs.Common.{◌≡◌, ◌++◌, ◌-◌, take}
+use Rattle.std.specs.Prelude.{map}
+use Rattle.hvnl_rules.proofs.numbers.push_ago.Given as goal
+
+abbrev pub invariant-loop-number : goal.invariant-loop-number
+invariant-loop-number l = l.out ≡ l.fn.out ++ map (λ n. l.now - n) (take l.number-index l.list)

@@ -1,0 +1,186 @@
+//! The book's calls, and logs that it goes over.
+use crate::book::HvnlBook;
+use crate::nights::NightLog;
+use duty_core::{Activity, Params};
+use rule_core::{Idles, Replayed, RuleBook, replay};
+use std::alloc::Global;
+use std::test::Fail;
+use timeline::{Timeline, TimelineFault};
+
+/// The unit up to which the log, which begins at 03:00, breaks a rule, or the number of roots that
+/// it leaves.
+fn replayed(alloc: Global, book: &HvnlBook, log: &Timeline) -> Result<Result<usize, u32>, Fail> {
+    let _length = log.len();
+    match replay(alloc, book, log, 180)? {
+        Replayed::Lawful(roots) => Ok(Ok(roots.len())),
+        Replayed::Unlawful { unit } => Ok(Err(unit)),
+    }
+}
+
+/// Four hours or less of driving and a quarter of an hour of rest, four times, and two hours more.
+fn twelve_hours(log: &mut Timeline) -> Result<(), TimelineFault> {
+    for _ in 0..4 {
+        log.push_run(Activity::Drive, 10)?;
+        log.push_run(Activity::Off, 1)?;
+    }
+    log.push_run(Activity::Drive, 8)
+}
+
+/// So many days with a quarter of an hour of driving each, and then a day of rest.
+fn short_nights(log: &mut Timeline, days: u32) -> Result<(), TimelineFault> {
+    for _ in 0..days {
+        log.push_run(Activity::Drive, 1)?;
+        log.push_run(Activity::Off, 95)?;
+    }
+    log.push_run(Activity::Drive, 1)?;
+    log.push_run(Activity::Off, 96)
+}
+
+#[test]
+fn works_five_and_a_quarter_hours(rt: HostRuntime) -> Result<(), Fail> {
+    let book = HvnlBook::new(rt.alloc());
+    let mut log = Timeline::new(rt.alloc());
+    log.push_run(Activity::Drive, 21)?;
+    log.push_run(Activity::Off, 1)?;
+    log.push_run(Activity::Serve, 1)?;
+    assert_eq!(rt; replayed(rt.alloc(), &book, &log)?, Ok(1));
+    let mut log = Timeline::new(rt.alloc());
+    log.push_run(Activity::Drive, 22)?;
+    assert_eq!(rt; replayed(rt.alloc(), &book, &log)?, Err(21));
+    Ok(())
+}
+
+#[test]
+fn works_twelve_hours_in_a_day(rt: HostRuntime) -> Result<(), Fail> {
+    let book = HvnlBook::new(rt.alloc());
+    let mut log = Timeline::new(rt.alloc());
+    twelve_hours(&mut log)?;
+    log.push_run(Activity::Off, 44)?;
+    log.push_run(Activity::Serve, 1)?;
+    assert_eq!(rt; replayed(rt.alloc(), &book, &log)?, Ok(1));
+    let mut log = Timeline::new(rt.alloc());
+    twelve_hours(&mut log)?;
+    log.push_run(Activity::Off, 43)?;
+    log.push_run(Activity::Serve, 1)?;
+    assert_eq!(rt; replayed(rt.alloc(), &book, &log)?, Err(95));
+    Ok(())
+}
+
+#[test]
+fn wants_four_nights_of_fourteen_days(rt: HostRuntime) -> Result<(), Fail> {
+    let book = HvnlBook::new(rt.alloc());
+    let mut log = Timeline::new(rt.alloc());
+    // Each night is interrupted after 03:00, but for two with a day of rest over their midnight.
+    short_nights(&mut log, 4)?;
+    short_nights(&mut log, 5)?;
+    log.push_run(Activity::Drive, 1)?;
+    log.push_run(Activity::Off, 95)?;
+    assert_eq!(rt; replayed(rt.alloc(), &book, &log)?, Ok(1));
+    // Of the thirteen nights only one is left.
+    log.push_run(Activity::Drive, 1)?;
+    assert_eq!(rt; replayed(rt.alloc(), &book, &log)?, Err(1154));
+    Ok(())
+}
+
+/// So many times two days with one night's break: the second day begins at 08:00, and all others at
+/// 03:00. Then as many days as that, with no break.
+fn single_nights(log: &mut Timeline, times: u32) -> Result<(), TimelineFault> {
+    for _ in 0..times {
+        log.push_run(Activity::Drive, 1)?;
+        log.push_run(Activity::Off, 115)?;
+        log.push_run(Activity::Drive, 1)?;
+        log.push_run(Activity::Off, 75)?;
+    }
+    for _ in 0..times {
+        log.push_run(Activity::Drive, 1)?;
+        log.push_run(Activity::Off, 95)?;
+    }
+    Ok(())
+}
+
+#[test]
+fn wants_two_nights_on_end(rt: HostRuntime) -> Result<(), Fail> {
+    let book = HvnlBook::new(rt.alloc());
+    let mut log = Timeline::new(rt.alloc());
+    single_nights(&mut log, 4)?;
+    assert_eq!(rt; replayed(rt.alloc(), &book, &log)?, Ok(1));
+    // Four nights have a break, and only one is left.
+    log.push_run(Activity::Drive, 1)?;
+    assert_eq!(rt; replayed(rt.alloc(), &book, &log)?, Err(1152));
+    Ok(())
+}
+
+/// A day's short rests, the longest of so many quarters, and work in its eighteenth hour.
+fn short_rests(log: &mut Timeline, longest: u32) -> Result<(), TimelineFault> {
+    log.push_run(Activity::Drive, 10)?;
+    log.push_run(Activity::Off, 1)?;
+    log.push_run(Activity::Drive, 10)?;
+    log.push_run(Activity::Off, longest)?;
+    log.push_run(Activity::Drive, 1)?;
+    log.push_run(Activity::Off, 19)?;
+    log.push_run(Activity::Serve, 1)
+}
+
+#[test]
+fn wants_seven_hours_of_rest_on_end(rt: HostRuntime) -> Result<(), Fail> {
+    let book = HvnlBook::new(rt.alloc());
+    let mut log = Timeline::new(rt.alloc());
+    short_rests(&mut log, 27)?;
+    assert_eq!(rt; replayed(rt.alloc(), &book, &log)?, Err(68));
+    let mut log = Timeline::new(rt.alloc());
+    short_rests(&mut log, 28)?;
+    assert_eq!(rt; replayed(rt.alloc(), &book, &log)?, Ok(1));
+    Ok(())
+}
+
+/// The numbers of a state after a first quarter of driving: six limits, two needs, a period that
+/// began a quarter ago, and no rest.
+const NUMBERS: [u32; 21] = [
+    6, 2, 1, 0, 21, 20, 31, 29, 43, 39, 95, 47, 671, 287, 1343, 575, 95, 28, 671, 96, 15,
+];
+
+#[test]
+fn reads_no_other_numbers(rt: HostRuntime) -> Result<(), Fail> {
+    let book = HvnlBook::new(rt.alloc());
+    assert!(rt; book.read_state(&[], 15)?.is_none());
+    assert!(rt; book.read_state(&NUMBERS[1..], 15)?.is_none());
+    // The period of fourteen days began before the first minute, and at no later one.
+    assert!(rt; book.read_state(&NUMBERS, 14)?.is_none());
+    let mut rested = [0, 0, 0, 96];
+    assert!(rt; book.read_state(&rested, 15)?.is_some());
+    rested[3] = 97;
+    assert!(rt; book.read_state(&rested, 15)?.is_none());
+    Ok(())
+}
+
+#[test]
+fn notes_a_night_at_its_seventh_hour(rt: HostRuntime) -> Result<(), Fail> {
+    let mut nights = NightLog::new(rt.alloc());
+    nights.work(480, 28)?;
+    assert_eq!(rt; nights.starts(), [480].as_slice());
+    nights.rest(1725, 27)?;
+    assert!(rt; nights.dates().is_empty());
+    nights.rest(1725, 28)?;
+    assert_eq!(rt; nights.dates(), [1].as_slice());
+    nights.keep_open(20639);
+    assert_eq!(rt; nights.dates(), [1].as_slice());
+    nights.keep_open(20640);
+    assert!(rt; nights.starts().is_empty() && nights.dates().is_empty());
+    Ok(())
+}
+
+#[test]
+fn answers_each_call(rt: HostRuntime) -> Result<(), Fail> {
+    let book = HvnlBook::new(rt.alloc());
+    assert_eq!(rt; book.params(), Params::Hvnl {});
+    let root = book.root(0)?;
+    let idles = Idles {
+        first: Activity::Off,
+        second: Some(Activity::Wait),
+    };
+    assert_eq!(rt; book.idles(&root), idles);
+    let copy = book.copy(&root)?;
+    assert!(rt; book.covers(&root, &copy, 0));
+    assert!(rt; !book.ahead(&root));
+    Ok(())
+}
