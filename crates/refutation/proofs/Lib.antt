@@ -1,0 +1,4 @@
+mod LayersLaws
+mod RunsLaws
+mod MarksLaws
+mod FormLaws
