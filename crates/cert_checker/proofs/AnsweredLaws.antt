@@ -1,0 +1,185 @@
+-- Successors put together, answered one by one.
+use Rattle.std.proofs.Common.{◌≡◌, ℕ, ◌+◌, ◌*◌, ◌<◌, ◌≤◌, Bool, true, false, List, [], ◌∷◌, ◌++◌, length, replicate, refl, sym, ◌∙◌, ap, subst, arith, append-nil, inl, inr, Decides}
+use Rattle.std.specs.Prelude.{Option, None, Some, map, ◌⊎◌, if◌then◌else◌}
+use Rattle.std.specs.Option.{option_to_list}
+use Rattle.duty_core.specs.declared.activity.Activity.{Activity}
+use Rattle.duty_core.specs.declared.activity.Activity.TheVariants.{Drive, Serve}
+use Rattle.duty_core.specs.Params.{unit_minutes}
+use Rattle.rule_core.specs.declared.nexts.Next.{Next}
+use Rattle.rule_core.specs.declared.nexts.Nexts.{Nexts}
+use Rattle.rule_core.specs.Reach.{IsOneOf, Reaches, listed, idle_list}
+use Rattle.rule_core.specs.ReachLaws.{reached_state}
+use Rattle.rule_core.specs.OneOf.{one_of-append, one_of-append_left, one_of-append_right, one_of-map, one_of_map}
+use Rattle.tour_model.specs.declared.label.Label.{Label}
+use Rattle.tour_model.specs.declared.tour.Tour.{Tour}
+use Rattle.tour_model.specs.Tour.{IsTour}
+use Rattle.tour_model.specs.Schedule.{step_units}
+use Rattle.tour_model.specs.Way.{done}
+use Rattle.cert_text.specs.declared.grown.Grown.{Grown}
+use Rattle.cert_text.specs.Problem.{Problem, departed, grow, grown_by, successors_of}
+use Rattle.cert_text.specs.Planning.{minute_of}
+use Rattle.cert_text.specs.ProblemOf.{minute_more}
+use Rattle.cert_text.specs.BetterLaws.{grown_from, grown_may, successor_by}
+use Rattle.cert_text.specs.Cover.{IsLetOff, IsCovered, IsTooLong}
+use Rattle.cert_checker.specs.Conditions.{AreAnswered, AreCovered, IsOff, TakesLong}
+
+-- ---- the states of a step, one by one
+
+covered_both : {S : Type 0} (problem : Problem S) (step : ℕ) (layer : List (Label S)) (depart : Option ℕ) (progress : ℕ) (a b : List (Next S)) → AreCovered problem step layer depart progress a → AreCovered problem step layer depart progress b → AreCovered problem step layer depart progress (a ++ b)
+covered_both problem step layer depart progress a b h k n o = elim (one_of-append a b n o) [ inl x ↦ h n x | inr y ↦ k n y ]
+
+covered_left : {S : Type 0} (problem : Problem S) (step : ℕ) (layer : List (Label S)) (depart : Option ℕ) (progress : ℕ) (a b : List (Next S)) → AreCovered problem step layer depart progress (a ++ b) → AreCovered problem step layer depart progress a
+covered_left problem step layer depart progress a b h n o = h n (one_of-append_left a b n o)
+
+covered_right : {S : Type 0} (problem : Problem S) (step : ℕ) (layer : List (Label S)) (depart : Option ℕ) (progress : ℕ) (a b : List (Next S)) → AreCovered problem step layer depart progress (a ++ b) → AreCovered problem step layer depart progress b
+covered_right problem step layer depart progress a b h n o = h n (one_of-append_right a b n o)
+
+pub three_covered : {S : Type 0} (problem : Problem S) (step : ℕ) (layer : List (Label S)) (depart : Option ℕ) (progress : ℕ) (n : Nexts S) → AreCovered problem step layer depart progress (option_to_list n.a) → AreCovered problem step layer depart progress (option_to_list n.b) →
+    AreCovered problem step layer depart progress (option_to_list n.c) → AreCovered problem step layer depart progress (listed n)
+three_covered problem step layer depart progress n x y z =
+    let a = option_to_list n.a in let b = option_to_list n.b in let c = option_to_list n.c in
+    covered_both problem step layer depart progress a (b ++ c) x (covered_both problem step layer depart progress b c y z)
+
+-- Each of the three is covered.
+pub record AreThree {S : Type 0} (problem : Problem S) (step : ℕ) (layer : List (Label S)) (depart : Option ℕ) (progress : ℕ) (n : Nexts S) : Type 0 where
+  pub a : AreCovered problem step layer depart progress (option_to_list n.a)
+  pub b : AreCovered problem step layer depart progress (option_to_list n.b)
+  pub c : AreCovered problem step layer depart progress (option_to_list n.c)
+
+pub covered_three : {S : Type 0} (problem : Problem S) (step : ℕ) (layer : List (Label S)) (depart : Option ℕ) (progress : ℕ) (n : Nexts S) → AreCovered problem step layer depart progress (listed n) → AreThree problem step layer depart progress n
+covered_three problem step layer depart progress n h =
+    let a = option_to_list n.a in let b = option_to_list n.b in let c = option_to_list n.c in
+    let r = covered_right problem step layer depart progress a (b ++ c) h in
+    record { a = covered_left problem step layer depart progress a (b ++ c) h; b = covered_left problem step layer depart progress b c r; c = covered_right problem step layer depart progress b c r }
+
+-- one state
+pub one_covered : {S : Type 0} (problem : Problem S) (step : ℕ) (layer : List (Label S)) (depart : Option ℕ) (progress : ℕ) (n : Next S) (b : Bool) → Decides b (IsCovered problem step layer (record { depart = depart; progress = progress; state = n.state })) →
+    Decides b (AreCovered problem step layer depart progress (n ∷ []))
+one_covered problem step layer depart progress n b d = (
+  (λ t m o. elim o [ inl f ↦ subst (λ k. IsCovered problem step layer (record { depart = depart; progress = progress; state = k.state })) f (d.0 t) | inr z ↦ absurd z ]),
+  (λ a. d.1 (a n (inl refl))),
+)
+
+-- ---- by each activity
+
+pub not_by : {S : Type 0} (problem : Problem S) (target : Option ℕ) (step : ℕ) (layer : List (Label S)) (l : Label S) (x : Activity) (from : ℕ) → problem.may from l.progress x ≡ false → AreAnswered problem target step layer (grown_by problem from l x)
+not_by problem target step layer l x from e = rw e (λ g o. absurd o)
+
+pub by_nexts : {S : Type 0} (problem : Problem S) (step : ℕ) (l : Label S) (x : Activity) (ns : List (Next S)) → problem.may step l.progress x ≡ true → ns ≡ problem.nexts l.state step x → map (grow l step x) ns ≡ grown_by problem step l x
+by_nexts problem step l x ns m e = rw m (ap (map (grow l step x)) e)
+
+-- all of them
+pub all_answered : {S : Type 0} (problem : Problem S) (target : Option ℕ) (step : ℕ) (layer : List (Label S)) (l : Label S) (from : ℕ) (xs : List Activity) → problem.tries l.state ≡ xs →
+    ((x : Activity) → IsOneOf (Drive ∷ Serve ∷ xs) x → AreAnswered problem target step layer (grown_by problem from l x)) → AreAnswered problem target step layer (successors_of problem from l)
+all_answered problem target step layer l from xs t h g o =
+    let b = grown_from problem from l g o in
+    h b.by (subst (λ ys. IsOneOf (Drive ∷ Serve ∷ ys) b.by) t b.tried) g (subst (λ m. IsOneOf (grown_by problem from l b.by) m) b.is (grown_may problem from l b.by b.next b.may b.follows))
+
+pub answered_by : {S : Type 0} (problem : Problem S) (target : Option ℕ) (step : ℕ) (layer : List (Label S)) (l : Label S) (from : ℕ) (xs : List Activity) (x : Activity) → problem.tries l.state ≡ xs → IsOneOf (Drive ∷ Serve ∷ xs) x →
+    AreAnswered problem target step layer (successors_of problem from l) → AreAnswered problem target step layer (grown_by problem from l x)
+answered_by problem target step layer l from xs x t o h g i = h g (successor_by problem from l x g (subst (λ ys. IsOneOf (Drive ∷ Serve ∷ ys) x) (sym t) o) i)
+
+-- ---- the states of the successors
+
+pub advanced_states : {S : Type 0} (tour : Tour) (unit : ℕ) (is_state : S → ℕ → Type 0) (nexts : S → ℕ → Activity → List (Next S)) (advances : S → ℕ → Activity → ℕ → List (Next S)) → IsTour tour → unit_minutes tour.params ≡ unit →
+    ((s : S) (at : ℕ) (x : Activity) (n : Next S) → is_state s at → IsOneOf (nexts s at x) n → is_state n.state (at + unit)) →
+    ((s : S) (at : ℕ) (x : Activity) (n : ℕ) (t : Next S) → is_state s at → IsOneOf (advances s at x n) t → Reaches unit nexts s at (replicate n x) (option_to_list t.mark) t.state) →
+    (s : S) (step : ℕ) (x : Activity) (n : Next S) → is_state s (minute_of tour step) → IsOneOf (advances s (minute_of tour step) x (step_units tour)) n → is_state n.state (minute_of tour (step + 1))
+advanced_states tour unit is_state nexts advances t one next reach s step x n i o =
+    let each = step_units tour in
+    let e : minute_of tour step + unit * length (replicate each x) ≡ minute_of tour (step + 1) = ap (λ u. minute_of tour step + u * length (replicate each x)) (sym one) ∙ minute_more tour t step x in
+    subst (is_state n.state) e (reached_state unit is_state nexts next (replicate each x) s (minute_of tour step) (option_to_list n.mark) n.state i (reach s (minute_of tour step) x each n i o))
+
+-- ---- what is let off
+
+pub long_let_off : {S : Type 0} (problem : Problem S) (target depart : Option ℕ) (step eta : ℕ) (l : Label S) → l.depart ≡ depart → problem.eta step l.progress ≡ Some eta → TakesLong target depart eta → IsTooLong problem target step l
+long_let_off problem (Some t) (Some d) step eta l e f h = record { depart = d; eta = eta; departed = e; ends = f; long = h }
+long_let_off problem (Some t) None step eta l e f h = absurd h
+long_let_off problem None depart step eta l e f h = absurd h
+
+let_off_long : {S : Type 0} (problem : Problem S) (target depart : Option ℕ) (step eta : ℕ) (l : Label S) → l.depart ≡ depart → problem.eta step l.progress ≡ Some eta → IsTooLong problem target step l → TakesLong target depart eta
+let_off_long problem None depart step eta l e f h = absurd h.long
+let_off_long problem (Some t) None step eta l e f h = absurd (let q : None ≡ Some h.depart = sym e ∙ h.departed in cc)
+let_off_long problem (Some t) (Some d) step eta l e f h =
+    let q : Some d ≡ Some h.depart = sym e ∙ h.departed in
+    let r : Some eta ≡ Some h.eta = sym f ∙ h.ends in
+    let i : d ≡ h.depart = cc in
+    let j : eta ≡ h.eta = cc in
+    let le = h.long in omega arith
+
+-- whether a label is let off, by where it ends at the earliest
+let_off_where : {S : Type 0} (problem : Problem S) (target : Option ℕ) (step : ℕ) (l : Label S) (o : Option ℕ) → problem.eta step l.progress ≡ o → IsOff target l.depart o → IsLetOff problem target step l
+let_off_where problem target step l None e h = inl e
+let_off_where problem target step l (Some eta) e h = inr (long_let_off problem target l.depart step eta l refl e h)
+
+where_let_off : {S : Type 0} (problem : Problem S) (target : Option ℕ) (step : ℕ) (l : Label S) (o : Option ℕ) → problem.eta step l.progress ≡ o → IsLetOff problem target step l → IsOff target l.depart o
+where_let_off problem target step l None e h = tt
+where_let_off problem target step l (Some eta) e h = elim h [
+  | inl none ↦ absurd (let q : None ≡ Some eta = sym none ∙ e in cc)
+  | inr too ↦ let_off_long problem target l.depart step eta l refl e too
+]
+
+-- ---- the successors by an activity
+
+in_test : {X : Type 0} (b : Bool) (xs : List X) (x : X) → IsOneOf (if b then xs else []) x → IsOneOf xs x
+in_test true xs x o = o
+in_test false xs x o = absurd o
+
+in_grown : {S : Type 0} (problem : Problem S) (step : ℕ) (l : Label S) (x : Activity) (g : Grown S) → IsOneOf (grown_by problem step l x) g → (n : Next S) × IsOneOf (problem.nexts l.state step x) n × (grow l step x n ≡ g)
+in_grown problem step l x g o = one_of-map (grow l step x) (problem.nexts l.state step x) g (in_test (problem.may step l.progress x) (map (grow l step x) (problem.nexts l.state step x)) g o)
+
+label_grown : {S : Type 0} (step : ℕ) (l : Label S) (x : Activity) (n : Next S) (depart : Option ℕ) (progress : ℕ) → depart ≡ departed l.depart x step → progress ≡ done l.progress x → record { depart = depart; progress = progress; state = n.state } ≡ (grow l step x n).label
+label_grown step l x n depart progress d p =
+    ap (λ o. record { depart = o; progress = progress; state = n.state }) d ∙ ap (λ k. record { depart = departed l.depart x step; progress = k; state = n.state }) p
+
+-- where they are let off
+pub off_answered : {S : Type 0} (problem : Problem S) (target : Option ℕ) (step : ℕ) (layer : List (Label S)) (l : Label S) (x : Activity) (depart : Option ℕ) (progress : ℕ) → depart ≡ departed l.depart x step → progress ≡ done l.progress x →
+    IsOff target depart (problem.eta (step + 1) progress) → AreAnswered problem target (step + 1) layer (grown_by problem step l x)
+off_answered problem target step layer l x depart progress d p h g o =
+    let q = in_grown problem step l x g o in
+    let m = (grow l step x q.0).label in
+    let off : IsOff target m.depart (problem.eta (step + 1) m.progress) = subst (λ k. IsOff target k (problem.eta (step + 1) m.progress)) d (subst (λ k. IsOff target depart (problem.eta (step + 1) k)) p h) in
+    inl (subst (λ k. IsLetOff problem target (step + 1) k.label) q.2 (let_off_where problem target (step + 1) m (problem.eta (step + 1) m.progress) refl off))
+
+-- where they are not
+pub covered_answered : {S : Type 0} (problem : Problem S) (target : Option ℕ) (step : ℕ) (layer : List (Label S)) (l : Label S) (x : Activity) (depart : Option ℕ) (progress : ℕ) (ns : List (Next S)) (b : Bool) → depart ≡ departed l.depart x step → progress ≡ done l.progress x →
+    problem.may step l.progress x ≡ true → ns ≡ problem.nexts l.state step x → (IsOff target depart (problem.eta (step + 1) progress) → ⊥) → Decides b (AreCovered problem (step + 1) layer depart progress ns) → Decides b (AreAnswered problem target (step + 1) layer (grown_by problem step l x))
+covered_answered problem target step layer l x depart progress ns b d p may e not_off c = (
+  (λ t g o. (
+      let q = in_grown problem step l x g o in
+      let here = c.0 t q.0 (subst (λ ys. IsOneOf ys q.0) (sym e) q.1) in
+      inr (subst (λ k. IsCovered problem (step + 1) layer k.label) q.2 (subst (λ k. IsCovered problem (step + 1) layer k) (label_grown step l x q.0 depart progress d p) here))
+      )),
+  (λ h. c.1 (λ n i. (
+      let g = grow l step x n in
+      let o : IsOneOf (grown_by problem step l x) g = subst (λ gs. IsOneOf gs g) (by_nexts problem step l x ns may e) (one_of_map (grow l step x) ns n i) in
+      elim (h g o) [
+        | inl off ↦ absurd (not_off (subst (λ k. IsOff target k (problem.eta (step + 1) progress)) (sym d) (subst (λ k. IsOff target g.label.depart (problem.eta (step + 1) k)) (sym p) (where_let_off problem target (step + 1) g.label (problem.eta (step + 1) g.label.progress) refl off))))
+        | inr covered ↦ subst (λ k. IsCovered problem (step + 1) layer k) (sym (label_grown step l x n depart progress d p)) covered
+      ]
+      ))),
+)
+
+-- by driving, by service and by one or two idle activities
+pub by_three : {S : Type 0} (problem : Problem S) (target : Option ℕ) (step : ℕ) (layer : List (Label S)) (l : Label S) (from : ℕ) (a x : Activity) → AreAnswered problem target step layer (grown_by problem from l Drive) → AreAnswered problem target step layer (grown_by problem from l Serve) →
+    AreAnswered problem target step layer (grown_by problem from l a) → IsOneOf (Drive ∷ Serve ∷ a ∷ []) x → AreAnswered problem target step layer (grown_by problem from l x)
+by_three problem target step layer l from a x d s h o = elim o [
+  | inl e ↦ subst (λ y. AreAnswered problem target step layer (grown_by problem from l y)) e d
+  | inr p ↦ elim p [
+    | inl e ↦ subst (λ y. AreAnswered problem target step layer (grown_by problem from l y)) e s
+    | inr q ↦ elim q [ inl e ↦ subst (λ y. AreAnswered problem target step layer (grown_by problem from l y)) e h | inr z ↦ absurd z ]
+  ]
+]
+
+pub by_four : {S : Type 0} (problem : Problem S) (target : Option ℕ) (step : ℕ) (layer : List (Label S)) (l : Label S) (from : ℕ) (a b x : Activity) → AreAnswered problem target step layer (grown_by problem from l Drive) → AreAnswered problem target step layer (grown_by problem from l Serve) →
+    AreAnswered problem target step layer (grown_by problem from l a) → AreAnswered problem target step layer (grown_by problem from l b) → IsOneOf (Drive ∷ Serve ∷ a ∷ b ∷ []) x → AreAnswered problem target step layer (grown_by problem from l x)
+by_four problem target step layer l from a b x d s h k o = elim o [
+  | inl e ↦ by_three problem target step layer l from a x d s h (inl e)
+  | inr p ↦ elim p [
+    | inl e ↦ by_three problem target step layer l from a x d s h (inr (inl e))
+    | inr q ↦ elim q [
+      | inl e ↦ by_three problem target step layer l from a x d s h (inr (inr (inl e)))
+      | inr r ↦ elim r [ inl e ↦ subst (λ y. AreAnswered problem target step layer (grown_by problem from l y)) e k | inr z ↦ absurd z ]
+    ]
+  ]
+]

@@ -1,0 +1,9 @@
+mod ParsedLaws
+mod PlaceLaws
+mod AnsweredLaws
+mod FollowLaws
+mod LabelLaws
+mod ClaimLaws
+mod ValidLaws
+mod TopLaws
+mod CheckedLaws

@@ -1,0 +1,10 @@
+use Rattle.std.proofs.Common.{take}
+use Rattle.cert_text.specs.Planning.{problem_of}
+use Rattle.cert_text.specs.Cover.{NoneCovers}
+use Rattle.cert_checker.specs.Places.{labels_at}
+use Rattle.cert_checker.proofs.covered.is_any_better.Given as goal
+
+abbrev pub invariant-loop-place : goal.invariant-loop-place
+invariant-loop-place g l =
+    NoneCovers (problem_of l.tour (g.B.RuleBook.advances_of l.book) (g.B.RuleBook.covering l.book) (g.B.RuleBook.idles_of l.book)) l.step (labels_at l.labels (take l.place-index l.places))
+    (record { depart = l.depart; progress = l.progress; state = l.state })

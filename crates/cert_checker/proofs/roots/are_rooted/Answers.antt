@@ -1,0 +1,29 @@
+use Rattle.std.proofs.Common.{◌≡◌, true, false, refl, sym, ◌∙◌, subst}
+use Rattle.std.proofs.lemmas.List.{take_all}
+use Rattle.rule_core.specs.declared.roots.Root.{Root}
+use Rattle.rule_core.specs.Reach.{IsOneOf}
+use Rattle.rule_core.specs.OneOf.{one_of_item}
+use Rattle.cert_text.specs.Problem.{root_label}
+use Rattle.cert_text.specs.Planning.{problem_of}
+use Rattle.cert_text.specs.Cover.{IsCovered}
+use Rattle.cert_checker.specs.Parsed.{there}
+use Rattle.cert_checker.proofs.LabelLaws.{each_more}
+use Rattle.cert_checker.proofs.roots.are_rooted.Goals as goal
+
+pub is_covered-requires-clause-state : goal.is_covered-requires-clause-state
+is_covered-requires-clause-state g c = c.requires.roots c.root-item.result (one_of_item c.args.roots.now c.loop-root.root-index c.root-item.result c.loop-root-test.true c.root-item.is)
+
+pub returns-then-not-is_covered : goal.returns-then-not-is_covered
+returns-then-not-is_covered g c = (
+  (λ t. absurd (let f : false ≡ true = t in cc)),
+  (λ h. sym c.if-not-is_covered.true ∙ c.is_covered.ensures.1 (h c.root-item.result (one_of_item c.args.roots.now c.loop-root.root-index c.root-item.result c.loop-root-test.true c.root-item.is))),
+)
+
+pub loop-root-preserved : goal.loop-root-preserved
+loop-root-preserved g c =
+    let problem = problem_of c.args.tour.now (g.B.RuleBook.advances_of c.args.book.now) (g.B.RuleBook.covering c.args.book.now) (g.B.RuleBook.idles_of c.args.book.now) in
+    each_more (λ (r : Root g.row.B-State.Denot). IsCovered problem 0 (there c.args.labels.now) (root_label r.state)) c.args.roots.now c.loop-root.root-index c.root-item.result c.loop-root-test.true c.root-item.is c.loop-root.invariant
+    (c.is_covered.ensures.0 c.if-not-is_covered.false)
+
+pub returns : goal.returns
+returns g c = ((λ _ r o. c.loop-root.invariant r (subst (λ ys. IsOneOf ys r) (sym (take_all c.loop-root.root-index c.args.roots.now c.loop-root-test.false)) o)), (λ _. refl))

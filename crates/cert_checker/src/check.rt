@@ -1,0 +1,128 @@
+//! The check of a certificate.
+ghost use Rattle.std.specs.Prelude.{◌≡◌, ◌*◌, ◌≤◌, length, Decides, IfOk};
+ghost use Rattle.duty_core.specs.declared.limits.TheConstants.{LONGEST_LOG};
+ghost use Rattle.duty_core.specs.Params.{unit_minutes};
+ghost use Rattle.rule_core.specs.Replay.{AreRootStates, AreRootsOf};
+ghost use Rattle.tour_model.specs.Schedule.{log_start};
+ghost use Rattle.tour_model.specs.Tour.{IsTour};
+ghost use Rattle.tour_model.specs.Word.{word_length};
+ghost use Rattle.cert_text.specs.Cert.{acts_of_runs};
+ghost use Rattle.cert_text.specs.Planning.{problem_of, minute_of, IsLogState};
+ghost use Rattle.cert_checker.specs.Parsed.{there};
+ghost use Rattle.cert_checker.specs.Conditions.{layer_of};
+ghost use Rattle.cert_checker.specs.Rooted.{AreRooted};
+ghost use Rattle.cert_checker.specs.Verdicts.{IsSmallCert, IsVerdict, Proves, verdict_of, claim_line, layers_line, root_line};
+
+use crate::claim::fault_of_claim;
+use crate::layers::first_label;
+use crate::parse::read_layer;
+use crate::roots::are_rooted;
+use crate::verdict::{Reason, Rejection, SCHEDULE_LINE, Verdict};
+use cert_text::Cert;
+use duty_core::NoMemory;
+use rule_core::{Roots, RuleBook};
+use std::alloc::Global;
+use timeline::Timeline;
+use tour_model::Tour;
+
+/// The line of a condition on the claim.
+fn claim_line(cert: &Cert, reason: Reason) -> u64
+    requires { IsSmallCert cert.now }
+    ensures { result ≡ claim_line cert.now reason }
+{
+    match reason {
+        Reason::Lawful => SCHEDULE_LINE + cert.schedule.items().len() as u64 + 1,
+        _ => SCHEDULE_LINE,
+    }
+}
+
+/// The line of the number of layers.
+fn layers_line(cert: &Cert) -> u64
+    requires { IsSmallCert cert.now }
+    ensures { result ≡ layers_line cert.now }
+{
+    SCHEDULE_LINE + cert.schedule.items().len() as u64 + 1 + cert.marks.items().len() as u64 + 1
+}
+
+/// The line of layer 0, or of the number of layers where there is none.
+fn root_line(cert: &Cert) -> u64
+    requires { IsSmallCert cert.now }
+    ensures { result ≡ root_line cert.now cert.now.layers }
+{
+    let line = layers_line(cert);
+    if cert.layers.items().is_empty() {
+        line
+    } else {
+        line + 1
+    }
+}
+
+/// Whether each state that the log reaches is covered by a label of layer 0 that has not departed
+/// and has done nothing.
+fn do_roots_hold<B: RuleBook>(
+    alloc: Global,
+    book: &B,
+    tour: &Tour,
+    roots: &Roots<B::State>,
+    cert: &Cert,
+) -> Result<bool, NoMemory>
+    requires tour { IsTour tour.now }
+    requires params { B.params_of book.now ≡ tour.now.params }
+    requires roots { AreRootStates (B.is_state_at book.now) (minute_of tour.now 0) roots.now }
+    ensures { IfOk result (λ b. Decides b (AreRooted (problem_of tour.now (B.advances_of book.now) (B.covering book.now) (B.idles_of book.now))
+        (there (layer_of (B.state_of book.now) tour.now (word_length tour.now) cert.now.layers 0)) roots.now)) }
+{
+    let labels = read_layer(alloc, book, tour, tour.word_len(), cert.layers.items(), 0)?;
+    Ok(are_rooted(book, tour, &labels, roots.items()))
+}
+
+/// What an accepted certificate says.
+fn accepted(cert: &Cert) -> Verdict
+    ensures { result ≡ verdict_of cert.now.target }
+{
+    match cert.target {
+        None => Verdict::Infeasible,
+        Some(steps) => Verdict::Shortest { steps },
+    }
+}
+
+/// Checks a certificate of the tour behind the log, which leaves these roots.
+///
+/// It is accepted exactly where it is valid. Then the schedule of one of kind shortest is a shortest
+/// one, and where one of kind infeasible is accepted, there is no solution. Else the first line at
+/// which a condition fails is named, and the first that fails there.
+pub fn check_parsed<B: RuleBook>(
+    alloc: Global,
+    book: &B,
+    tour: &Tour,
+    log: &Timeline,
+    roots: &Roots<B::State>,
+    cert: &Cert,
+) -> Result<Verdict, NoMemory>
+    requires tour { IsTour tour.now }
+    requires params { B.params_of book.now ≡ tour.now.params }
+    requires short { unit_minutes tour.now.params * length log.now ≤ LONGEST_LOG }
+    requires roots { AreRootsOf (unit_minutes tour.now.params) (B.nexts_of book.now) (B.covering book.now) (B.root_of book.now (log_start tour.now log.now)) (log_start tour.now log.now) log.now roots.now }
+    requires cert { IsSmallCert cert.now }
+    ensures verdict { IfOk result (IsVerdict tour.now log.now (problem_of tour.now (B.advances_of book.now) (B.covering book.now) (B.idles_of book.now)) (B.is_state_at book.now)
+        (IsLogState tour.now log.now (B.root_of book.now (log_start tour.now log.now)) (B.nexts_of book.now)) (B.state_of book.now) cert.now) }
+    ensures proves { IfOk result (Proves tour.now log.now (acts_of_runs cert.now.schedule)) }
+{
+    if let Some(reason) = fault_of_claim(alloc, book, tour, log, cert)? {
+        let line = claim_line(cert, reason);
+        return Ok(Verdict::Rejected { line, reason });
+    }
+    if !do_roots_hold(alloc, book, tour, roots, cert)? {
+        let line = root_line(cert);
+        return Ok(Verdict::Rejected {
+            line,
+            reason: Reason::Root,
+        });
+    }
+    let first = layers_line(cert) + 1;
+    if let Some(failure) = first_label(alloc, book, tour, cert.target, first, &cert.layers)? {
+        let Rejection { line, reason } = failure;
+        return Ok(Verdict::Rejected { line, reason });
+    }
+    Ok(accepted(cert))
+}
