@@ -21,6 +21,7 @@ use Rattle.duty_core.specs.HistoryLaws.{unit_at-past}
 use Rattle.duty_core.specs.UniqueLaws.{base_unique, omitted_unique, last_end_unique, days_base_unique, first_of_days_unique}
 use Rattle.duty_core.specs.ExistLaws.{has_last_end}
 use Rattle.rule_readings.proofs.HeldRuns.{in_run}
+use Rattle.rule_readings.specs.declared.ca_cycle.TheConstants.{CA_SINCE_DAY_OFF_LIMIT}
 use Rattle.rule_readings.specs.CaHistory.{IsPadded}
 use Rattle.rule_readings.specs.CaCounts.{IsSinceDayOff, IsCaCount, IsCaPlaceRule, ca_limit}
 
@@ -72,7 +73,7 @@ one_count params first p marks _ i n m h g = absurd h
 -- # 24 hours of rest
 
 -- 24 hours of rest lie in the fortnight before the place, where the last rest run of as much ended late enough
-day_off_from : (p : List Activity) (i to : ℕ) → IsLastEnd CA_DAY_OFF p i to → i + CA_DAY_OFF ≤ to + CA_DAY_OFF_WITHIN → HoldsRest CA_DAY_OFF p (i - CA_DAY_OFF_WITHIN) i
+pub day_off_from : (p : List Activity) (i to : ℕ) → IsLastEnd CA_DAY_OFF p i to → i + CA_DAY_OFF ≤ to + CA_DAY_OFF_WITHIN → HoldsRest CA_DAY_OFF p (i - CA_DAY_OFF_WITHIN) i
 day_off_from p i to h l =
     let y = h.rest.long in
     let z = h.before in
@@ -84,7 +85,7 @@ day_off_from p i to h l =
     }
 
 -- and only there
-day_off_back : (p : List Activity) (i to : ℕ) → unit_at p i ≡ Drive → IsLastEnd CA_DAY_OFF p i to → HoldsRest CA_DAY_OFF p (i - CA_DAY_OFF_WITHIN) i → i + CA_DAY_OFF ≤ to + CA_DAY_OFF_WITHIN
+pub day_off_back : (p : List Activity) (i to : ℕ) → unit_at p i ≡ Drive → IsLastEnd CA_DAY_OFF p i to → HoldsRest CA_DAY_OFF p (i - CA_DAY_OFF_WITHIN) i → i + CA_DAY_OFF ≤ to + CA_DAY_OFF_WITHIN
 day_off_back p i to d h g =
     let b = g.before in
     let c = g.after in
@@ -100,14 +101,14 @@ pad_long (UsProperty berth days start) = omega arith
 pad_long (Canada berth way cycle start) = omega arith
 pad_long Hvnl = omega arith
 
-since_keeps : (p : List Activity) → ((i n : ℕ) → IsSinceDayOff p i n → n ≤ CA_DAY_OFF_WITHIN) → ((i : ℕ) → unit_at p i ≡ Drive → (to : ℕ) × IsLastEnd CA_DAY_OFF p i to) → (i : ℕ) → MeetsCa24in14 p i
+since_keeps : (p : List Activity) → ((i n : ℕ) → IsSinceDayOff p i n → n ≤ CA_SINCE_DAY_OFF_LIMIT) → ((i : ℕ) → unit_at p i ≡ Drive → (to : ℕ) × IsLastEnd CA_DAY_OFF p i to) → (i : ℕ) → MeetsCa24in14 p i
 since_keeps p h has i d =
     let e = has i d in
     let b = e.1.before in
-    let n = h i (i + CA_DAY_OFF - e.0) (record { drive = d; to = e.0; last = e.1; counted = omega arith }) in
+    let n = h i (i - e.0) (record { drive = d; to = e.0; last = e.1; counted = omega arith }) in
     day_off_from p i e.0 e.1 (omega arith)
 
-keeps_since : (p : List Activity) → ((i : ℕ) → MeetsCa24in14 p i) → (i n : ℕ) → IsSinceDayOff p i n → n ≤ CA_DAY_OFF_WITHIN
+keeps_since : (p : List Activity) → ((i : ℕ) → MeetsCa24in14 p i) → (i n : ℕ) → IsSinceDayOff p i n → n ≤ CA_SINCE_DAY_OFF_LIMIT
 keeps_since p h i n g =
     let c = g.counted in
     let l = day_off_back p i g.to g.drive g.last (h i g.drive) in

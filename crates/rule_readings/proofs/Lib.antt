@@ -16,3 +16,10 @@ pub mod AuNightLaws
 pub mod AuNightLoop
 pub mod AuKeepLaws
 pub mod Within
+pub mod NextDeclared
+pub mod PairSums
+pub mod BestLoop
+pub mod ValueLaws
+pub mod PlannedCounts
+pub mod ReadingLoop
+pub mod ReadingLaws

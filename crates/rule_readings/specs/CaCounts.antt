@@ -6,7 +6,8 @@ use Rattle.duty_core.specs.declared.mark.Mark.{Mark}
 use Rattle.duty_core.specs.declared.params.Params.{Params}
 use Rattle.duty_core.specs.declared.rule.Rule.{Rule}
 use Rattle.duty_core.specs.declared.rule.Rule.TheVariants.{CaDay13, CaDay14, CaShift13, CaShift14, CaElapsed16, CaOff10, CaDefer, CaPair, Ca24in14, CaCycle, Ca70without24}
-use Rattle.duty_core.specs.declared.limits.TheConstants.{CA_DAY_DRIVING_LIMIT, CA_DAY_DUTY_LIMIT, CA_SHIFT_DRIVING_LIMIT, CA_SHIFT_DUTY_LIMIT, CA_ELAPSED_LIMIT, CA_FULL_REST, CA_DAY_OFF, CA_DAY_OFF_WITHIN, CA_CYCLE_2, CA_WITHOUT_DAY_OFF_LIMIT}
+use Rattle.duty_core.specs.declared.limits.TheConstants.{CA_DAY_DRIVING_LIMIT, CA_DAY_DUTY_LIMIT, CA_SHIFT_DRIVING_LIMIT, CA_SHIFT_DUTY_LIMIT, CA_ELAPSED_LIMIT, CA_FULL_REST, CA_DAY_OFF, CA_CYCLE_2, CA_WITHOUT_DAY_OFF_LIMIT}
+use Rattle.rule_readings.specs.declared.ca_cycle.TheConstants.{CA_SINCE_DAY_OFF_LIMIT}
 use Rattle.duty_core.specs.History.{unit_at}
 use Rattle.duty_core.specs.Day.{day_number, IsFirstOfDays}
 use Rattle.duty_core.specs.Counting.{driving, duty, IsLastEnd, IsDaysBase}
@@ -53,12 +54,12 @@ pub record IsShiftTime (p : List Activity) (Marked : ℕ → Type 0) (i n : ℕ)
   pub found : IsBase CA_FULL_REST p Marked i base omitted
   pub counted : n ≡ elapsed base omitted (i + 1)
 
--- The last rest run of at least 24 hours ended so long before the place, less 24 hours: so far back one has to look for 24 hours of rest.
+-- the time since the last rest run of at least 24 hours
 pub record IsSinceDayOff (p : List Activity) (i n : ℕ) : Type 0 where
   pub drive : unit_at p i ≡ Drive
   pub to : ℕ
   pub last : IsLastEnd CA_DAY_OFF p i to
-  pub counted : n + to ≡ i + CA_DAY_OFF
+  pub counted : n + to ≡ i
 
 -- duty in the days of the cycle, since the last reset
 pub record IsCycleDuty (cycle : ℕ) (day : ℕ → ℕ) (p : List Activity) (i n : ℕ) : Type 0 where
@@ -106,7 +107,7 @@ ca_limit params CaDay14 = CA_DAY_DUTY_LIMIT
 ca_limit params CaShift13 = CA_SHIFT_DRIVING_LIMIT
 ca_limit params CaShift14 = CA_SHIFT_DUTY_LIMIT
 ca_limit params CaElapsed16 = CA_ELAPSED_LIMIT
-ca_limit params Ca24in14 = CA_DAY_OFF_WITHIN
+ca_limit params Ca24in14 = CA_SINCE_DAY_OFF_LIMIT
 ca_limit params CaCycle = cycle_limit (cycle_of params)
 ca_limit params Ca70without24 = CA_WITHOUT_DAY_OFF_LIMIT
 ca_limit params _ = 0

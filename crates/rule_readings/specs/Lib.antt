@@ -16,3 +16,6 @@ pub mod AuNightCounts
 pub mod AuKeeps
 pub mod Broken
 pub mod BrokenLaws
+pub mod Best
+pub mod Values
+pub mod Readings

@@ -51,7 +51,7 @@ static AU_RULES: [Rule; 9] = [
 ];
 
 /// The rules of the book, in its order.
-fn rules_of_book(params: Params) -> &'static [Rule]
+pub(crate) fn rules_of_book(params: Params) -> &'static [Rule]
     ensures { result.now ≡ rules_of params }
 {
     match params {

@@ -9,7 +9,9 @@ ghost use Rattle.rule_readings.specs.CaHistory.{IsByMinutes, IsPadded};
 ghost use Rattle.rule_readings.specs.Count.{IsCount};
 ghost use Rattle.rule_readings.specs.CaCounts.{IsCaCount, IsCaPlaceRule, IsCaRule, ca_limit};
 
-use crate::ca_cycle::{cycle, cycle_duty, duty_since_day_off, limit_of, since_day_off};
+use crate::ca_cycle::{
+    CA_SINCE_DAY_OFF_LIMIT, cycle, cycle_duty, duty_since_day_off, limit_of, since_day_off,
+};
 use crate::ca_day::{day_driving, day_duty};
 use crate::ca_pair::keeps_pair;
 use crate::ca_shift::{shift_driving, shift_duty, shift_time};
@@ -18,9 +20,8 @@ use crate::deferral::{keeps_defer, keeps_off10};
 use crate::lost::LostMinutes;
 use crate::padded::Padded;
 use duty_core::{
-    Activity, CA_DAY_DRIVING_LIMIT, CA_DAY_DUTY_LIMIT, CA_DAY_OFF_WITHIN, CA_ELAPSED_LIMIT,
-    CA_SHIFT_DRIVING_LIMIT, CA_SHIFT_DUTY_LIMIT, CA_WITHOUT_DAY_OFF_LIMIT, Marks, Minute, NoMemory,
-    Params, Rule,
+    Activity, CA_DAY_DRIVING_LIMIT, CA_DAY_DUTY_LIMIT, CA_ELAPSED_LIMIT, CA_SHIFT_DRIVING_LIMIT,
+    CA_SHIFT_DUTY_LIMIT, CA_WITHOUT_DAY_OFF_LIMIT, Marks, Minute, NoMemory, Params, Rule,
 };
 use std::alloc::Global;
 
@@ -81,7 +82,7 @@ pub(crate) fn ca_limit_of(params: Params, rule: Rule) -> u32
         Rule::CaShift13 => CA_SHIFT_DRIVING_LIMIT,
         Rule::CaShift14 => CA_SHIFT_DUTY_LIMIT,
         Rule::CaElapsed16 => CA_ELAPSED_LIMIT,
-        Rule::Ca24in14 => CA_DAY_OFF_WITHIN,
+        Rule::Ca24in14 => CA_SINCE_DAY_OFF_LIMIT,
         Rule::CaCycle => limit_of(cycle(params)),
         Rule::Ca70without24 => CA_WITHOUT_DAY_OFF_LIMIT,
         _ => 0,

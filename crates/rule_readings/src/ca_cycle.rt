@@ -13,8 +13,12 @@ use crate::days::{days_base, last_end};
 use crate::padded::Padded;
 use duty_core::{
     CA_CYCLE_1, CA_CYCLE_1_DAYS, CA_CYCLE_1_LIMIT, CA_CYCLE_1_RESET, CA_CYCLE_2, CA_CYCLE_2_DAYS,
-    CA_CYCLE_2_LIMIT, CA_CYCLE_2_RESET, CA_DAY_OFF, Minute, Params,
+    CA_CYCLE_2_LIMIT, CA_CYCLE_2_RESET, CA_DAY_OFF, CA_DAY_OFF_WITHIN, Minute, Params,
 };
+
+/// The greatest time since 24 hours of rest at which a driver may drive, in minutes: so long ago
+/// they ended at least, where they lie wholly in the fortnight before.
+pub(crate) const CA_SINCE_DAY_OFF_LIMIT: u32 = CA_DAY_OFF_WITHIN - CA_DAY_OFF;
 
 /// The number of the cycle, and 0 in other books.
 pub(crate) fn cycle(params: Params) -> u32
@@ -60,8 +64,8 @@ pub(crate) fn limit_of(cycle: u32) -> u32
     }
 }
 
-/// How far back from place `i`, at which there is driving, one has to look for 24 hours of rest, in
-/// minutes. None where none has ended.
+/// The time from the end of the last rest run of at least 24 hours to place `i`, at which there is
+/// driving, in minutes. None where none has ended.
 pub(crate) fn since_day_off(padded: &Padded, i: u32) -> Option<u32>
     requires inside { i < length padded.now }
     requires drive { unit_at padded.now i ≡ Drive }
@@ -69,7 +73,7 @@ pub(crate) fn since_day_off(padded: &Padded, i: u32) -> Option<u32>
 {
     let _places = padded.len();
     match last_end(padded, CA_DAY_OFF, i) {
-        Some(end) => Some(i - end + CA_DAY_OFF),
+        Some(end) => Some(i - end),
         None => None,
     }
 }

@@ -1,10 +1,11 @@
 //! The declared rests of a history: full rests, and shorter ones that a mark names.
-ghost use Rattle.std.specs.Prelude.{◌≡◌, ℕ, ◌+◌, ◌≤◌, ◌↔◌, IsTrue, Contains, Some};
+ghost use Rattle.std.specs.Prelude.{◌≡◌, ℕ, ◌+◌, ◌*◌, ◌≤◌, ◌↔◌, IsTrue, Contains, Some};
 ghost use Rattle.duty_core.specs.declared.mark.Mark.TheVariants.{SplitRest};
-ghost use Rattle.duty_core.specs.declared.limits.TheConstants.{MINUTE_LIMIT};
+ghost use Rattle.duty_core.specs.declared.limits.TheConstants.{MINUTE_LIMIT, PADDING_MINUTES};
+ghost use Rattle.duty_core.specs.Params.{unit_minutes};
 ghost use Rattle.duty_core.specs.Marks.{IsMinuteOf, IsSplitAt};
 ghost use Rattle.rule_readings.specs.declared.padded.TheConstants.{LONGEST_PADDED};
-ghost use Rattle.rule_readings.specs.Found.{DeclaresRun, IsLastFound};
+ghost use Rattle.rule_readings.specs.Found.{DeclaresRun, IsLastFound, IsFirstFound};
 
 use crate::padded::{Padded, RestRun};
 use duty_core::{Mark, Marks, Minute, PADDING_MINUTES, Params, unit_of};
@@ -17,6 +18,16 @@ pub(crate) fn minute_of(params: Params, first: Minute, place: u32) -> Option<Min
     ensures { (at : ℕ) → IsMinuteOf params first at place ↔ (result ≡ Some at) }
 {
     (first + unit_of(params) * place).checked_sub(PADDING_MINUTES)
+}
+
+/// The civil minute at which a place of a padded history begins that does not lie before year 2000.
+pub(crate) fn minute_at(params: Params, first: Minute, place: u32) -> Minute
+    requires early { first ≤ MINUTE_LIMIT }
+    requires inside { place ≤ LONGEST_PADDED }
+    requires late { PADDING_MINUTES ≤ first + unit_minutes params * place }
+    ensures { IsMinuteOf params first result place }
+{
+    first + unit_of(params) * place - PADDING_MINUTES
 }
 
 /// Whether a mark names the rest run that begins at this minute.
@@ -86,6 +97,28 @@ pub(crate) fn last_declared(
     while rest > 0 {
         rest -= 1;
         let run = runs[rest];
+        if is_declared(params, first, marks, full, run) {
+            return Some(run);
+        }
+    }
+    None
+}
+
+/// The first declared rest that ends behind place `i`. `None` where there is none.
+pub(crate) fn next_declared(
+    padded: &Padded,
+    params: Params,
+    first: Minute,
+    marks: &Marks,
+    full: u32,
+    i: u32,
+) -> Option<RestRun>
+    requires early { first ≤ MINUTE_LIMIT }
+    ensures { IsFirstFound full padded.now (IsSplitAt params first marks.now) i result }
+{
+    let runs = padded.rest_runs();
+    for next in runs.partition_point(|run| run.to <= i)..runs.len() {
+        let run = runs[next];
         if is_declared(params, first, marks, full, run) {
             return Some(run);
         }

@@ -6,7 +6,10 @@ mod au_nights;
 mod au_periods;
 #[cfg(test)]
 mod au_tests;
+mod au_values;
 mod base;
+mod best;
+mod book_readings;
 mod broken_rules;
 mod ca;
 mod ca_cycle;
@@ -19,13 +22,24 @@ mod count;
 mod days;
 mod declared;
 mod deferral;
+mod laws;
+mod losses;
 mod lost;
 mod padded;
+mod pair_sums;
 mod pairs;
+mod reading;
+#[cfg(test)]
+mod reading_tests;
 mod rules;
+mod scope;
 #[cfg(test)]
 mod tests;
 mod us;
+mod values;
 
+pub use book_readings::readings;
 pub use broken_rules::broken;
+pub use laws::{day_off_is_told_two_ways, kept_rules_read_within, readings_are_one};
+pub use reading::{Reading, ReadingList};
 pub use rules::Rules;

@@ -114,7 +114,7 @@ impl Padded {
 }
 
 /// How much rest stands before and behind a history of the book, in units.
-fn padding_of(params: Params) -> u32
+pub(crate) fn padding_of(params: Params) -> u32
     ensures value { result ≡ pad_units params }
     ensures bound { 2 * result + LONGEST_HISTORY ≤ LONGEST_PADDED }
 {

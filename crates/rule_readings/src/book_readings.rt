@@ -1,0 +1,129 @@
+//! The readings of a history that ends with a schedule.
+ghost use Rattle.std.specs.Prelude.{◌≡◌, ◌+◌, ◌*◌, ◌≤◌, Contains, IfOk, length};
+ghost use Rattle.civil_minutes.specs.declared.century.TheConstants.{MINUTES_OF_CENTURY};
+ghost use Rattle.duty_core.specs.declared.limits.TheConstants.{DAY_MINUTES};
+ghost use Rattle.duty_core.specs.Params.{unit_minutes, BeginsUnit, AreGoodParams};
+ghost use Rattle.duty_core.specs.RuleBooks.{rules_of};
+ghost use Rattle.rule_readings.specs.Lost.{AreLostCounts};
+ghost use Rattle.rule_readings.specs.Values.{au_limit, limit_of};
+ghost use Rattle.rule_readings.specs.Readings.{IsScope, IsReadingFound, AreReadings, AreTimedBefore};
+
+use crate::broken_rules::rules_of_book;
+use crate::ca::ca_limit_of;
+use crate::declared::minute_at;
+use crate::lost::LostMinutes;
+use crate::padded::Padded;
+use crate::reading::{Reading, ReadingList};
+use crate::scope::{Scope, scope_of};
+use crate::us::us_limit_of;
+use crate::values::best_of;
+use duty_core::{
+    AU_5H30_DUTY, AU_7D_DUTY, AU_7D_REST, AU_8H_DUTY, AU_11H_DUTY, AU_14D_DUTY, AU_14D_NIGHTS,
+    AU_24H_DUTY, AU_24H_REST, CA_BOTH_LOST_LIMIT, CA_LOST_LIMIT, CA_PAIR_LEAST, Marks, Minute,
+    NoMemory, Params, Rule, US_PAIR_LEAST, unit_of,
+};
+use std::alloc::Global;
+use timeline::Timeline;
+
+/// The limit of a rule of Australia: in minutes, and of the nights in nights.
+fn au_limit_of(rule: Rule) -> u32
+    ensures { result ≡ au_limit rule }
+{
+    let quarters = match rule {
+        Rule::Au5h30 => AU_5H30_DUTY,
+        Rule::Au8h => AU_8H_DUTY,
+        Rule::Au11h => AU_11H_DUTY,
+        Rule::Au24h => AU_24H_DUTY,
+        Rule::Au24hRest => AU_24H_REST,
+        Rule::Au7d => AU_7D_DUTY,
+        Rule::Au7dRest => AU_7D_REST,
+        Rule::Au14d => AU_14D_DUTY,
+        Rule::Au14dNights => return AU_14D_NIGHTS,
+        _ => 0,
+    };
+    unit_of(Params::Hvnl {}) * quarters
+}
+
+/// The limit of the rule, as its reading tells it.
+fn limit_of(params: Params, rule: Rule) -> u32
+    ensures { result ≡ limit_of params rule }
+{
+    match rule {
+        Rule::UsPair => US_PAIR_LEAST,
+        Rule::CaPair => CA_PAIR_LEAST,
+        Rule::CaOff10 => CA_LOST_LIMIT,
+        Rule::CaDefer => CA_BOTH_LOST_LIMIT,
+        Rule::UsWindow14 | Rule::UsDrive11 | Rule::UsBreak8 | Rule::UsWeek => {
+            us_limit_of(params, rule)
+        }
+        Rule::CaDay13
+        | Rule::CaDay14
+        | Rule::CaShift13
+        | Rule::CaShift14
+        | Rule::CaElapsed16
+        | Rule::Ca24in14
+        | Rule::CaCycle
+        | Rule::Ca70without24 => ca_limit_of(params, rule),
+        _ => au_limit_of(rule),
+    }
+}
+
+/// The reading of the rule. `None` where it looks at nothing.
+fn reading_of(
+    padded: &Padded,
+    lost: &LostMinutes,
+    scope: &Scope,
+    marks: &Marks,
+    rule: Rule,
+) -> Option<Reading>
+    requires good { AreGoodParams scope.now.params }
+    requires begins { BeginsUnit scope.now.params scope.now.first }
+    requires early { DAY_MINUTES ≤ scope.now.first }
+    requires late { scope.now.first ≤ MINUTES_OF_CENTURY }
+    requires counts { AreLostCounts padded.now lost.now }
+    requires of_book { Contains (rules_of scope.now.params) rule }
+    requires scope { IsScope scope.now padded.now }
+    ensures { IsReadingFound scope.now padded.now marks.now rule result }
+{
+    let _places = padded.len();
+    let best = best_of(padded, lost, scope, marks, rule)?;
+    Some(Reading {
+        used: best.used,
+        limit: limit_of(scope.params, rule),
+        at: minute_at(scope.params, scope.first, best.at),
+    })
+}
+
+/// The readings of a history with these marks, in the order of the book: for each rule what it
+/// counts at most in the schedule, or at least where the rule asks for at least its limit, and the
+/// first minute at which it does. A rule that looks at nothing there has no reading.
+///
+/// The history begins at the minute `first`, and its units from number `planned_from` on are the
+/// schedule. Most rules look at the schedule's driving minutes. Pairs of rests and deferred days are
+/// looked at in the whole history, and days and counted periods where they hold a unit of the
+/// schedule. `NoMemory` if there is none for what is counted.
+pub fn readings(
+    alloc: Global,
+    params: Params,
+    history: &Timeline,
+    first: Minute,
+    planned_from: u32,
+    marks: &Marks,
+) -> Result<ReadingList, NoMemory>
+    requires good { AreGoodParams params }
+    requires begins { BeginsUnit params first }
+    requires early { DAY_MINUTES ≤ first }
+    requires ends { first + unit_minutes params * length history.now ≤ MINUTES_OF_CENTURY }
+    requires planned { planned_from ≤ length history.now }
+    ensures readings { IfOk result (AreReadings params first history.now planned_from marks.now) }
+    ensures times { IfOk result (AreTimedBefore (first + unit_minutes params * length history.now)) }
+{
+    let padded = Padded::new(alloc, params, history)?;
+    let lost = LostMinutes::new(alloc, &padded)?;
+    let scope = scope_of(params, history, first, planned_from);
+    let mut readings = ReadingList::new(alloc);
+    for rule in rules_of_book(params) {
+        readings.push((*rule, reading_of(&padded, &lost, &scope, marks, *rule)))?;
+    }
+    Ok(readings)
+}
