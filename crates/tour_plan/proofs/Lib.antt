@@ -1,0 +1,3 @@
+pub mod ForParams
+pub mod Parents
+pub mod Proven

@@ -1,0 +1,117 @@
+//! Planning of a tour behind a log.
+ghost use Rattle.std.specs.Prelude.{◌≡◌, ◌*◌, ◌≤◌, length, IfOk};
+ghost use Rattle.duty_core.specs.Params.{unit_minutes};
+ghost use Rattle.duty_core.specs.declared.limits.TheConstants.{LONGEST_LOG};
+ghost use Rattle.rule_core.specs.Replay.{AreRootsOf};
+ghost use Rattle.tour_model.specs.Schedule.{log_start};
+ghost use Rattle.tour_model.specs.Tour.{IsTour};
+ghost use Rattle.cert_text.specs.Planning.{problem_of, IsLogState};
+ghost use Rattle.tour_plan.specs.Planned.{IsBudget, IsLawfulLog, IsPlannedBy, IsPlanned};
+
+use crate::audit::log_start;
+use crate::certificate::bytes_of;
+use crate::planned::Planned;
+use canada_rules::CanadaBook;
+use duty_core::{NoMemory, Params};
+use hvnl_rules::HvnlBook;
+use label_search::{Searched, search};
+use rule_core::{Replayed, Roots, RuleBook, replay};
+use schedule_rebuild::rebuild;
+use std::alloc::Global;
+use timeline::Timeline;
+use tour_model::Tour;
+use us_rules::UsBook;
+
+/// Plans the tour by a rule book, behind a lawful log that left these roots.
+fn plan_from<B: RuleBook>(
+    alloc: Global,
+    book: &B,
+    tour: &Tour,
+    log: &Timeline,
+    roots: &Roots<B::State>,
+    budget: u32,
+) -> Result<Planned, NoMemory>
+    requires tour { IsTour tour.now }
+    requires params { B.params_of book.now ≡ tour.now.params }
+    requires short { unit_minutes tour.now.params * length log.now ≤ LONGEST_LOG }
+    requires lawful { IsLawfulLog tour.now log.now }
+    requires roots { AreRootsOf (unit_minutes tour.now.params) (B.nexts_of book.now) (B.covering book.now)
+        (B.root_of book.now (log_start tour.now log.now)) (log_start tour.now log.now) log.now roots.now }
+    requires budget { IsBudget budget }
+    ensures planned { IfOk result (IsPlannedBy tour.now log.now (problem_of tour.now (B.advances_of book.now) (B.covering book.now) (B.idles_of book.now)) (B.is_state_at book.now)
+        (IsLogState tour.now log.now (B.root_of book.now (log_start tour.now log.now)) (B.nexts_of book.now)) (B.state_of book.now) budget) }
+{
+    match search(alloc, book, tour, roots.items(), budget)? {
+        Searched::Found { layers, place } => {
+            let schedule = rebuild(alloc, &layers, roots.items(), place)?;
+            let cert = bytes_of(alloc, book, tour, log, &layers, Some(&schedule))?;
+            Ok(Planned::Shortest { schedule, cert })
+        }
+        Searched::Never { layers } => Ok(Planned::Infeasible {
+            cert: bytes_of(alloc, book, tour, log, &layers, None)?,
+        }),
+        Searched::Spent { layers: _ } => Ok(Planned::Spent),
+    }
+}
+
+/// Plans the tour by a rule book, behind the log.
+fn plan_by<B: RuleBook>(
+    alloc: Global,
+    book: &B,
+    tour: &Tour,
+    log: &Timeline,
+    budget: u32,
+) -> Result<Planned, NoMemory>
+    requires tour { IsTour tour.now }
+    requires params { B.params_of book.now ≡ tour.now.params }
+    requires short { unit_minutes tour.now.params * length log.now ≤ LONGEST_LOG }
+    requires budget { IsBudget budget }
+    ensures planned { IfOk result (IsPlannedBy tour.now log.now (problem_of tour.now (B.advances_of book.now) (B.covering book.now) (B.idles_of book.now)) (B.is_state_at book.now)
+        (IsLogState tour.now log.now (B.root_of book.now (log_start tour.now log.now)) (B.nexts_of book.now)) (B.state_of book.now) budget) }
+{
+    match replay(alloc, book, log, log_start(tour, log))? {
+        Replayed::Lawful(roots) => plan_from(alloc, book, tour, log, &roots, budget),
+        Replayed::Unlawful { unit } => Ok(Planned::Unlawful { unit }),
+    }
+}
+
+/// Plans the tour behind the log, by the rule book of the tour's parameters.
+///
+/// The log ends where the tour starts. `Unlawful` comes exactly where it is not lawful. Else, unless
+/// the search keeps `budget` labels, `Shortest` comes exactly where there is a solution and
+/// `Infeasible` where there is none, each with the bytes of a valid certificate of at most
+/// `CERT_LIMIT` bytes. `Spent` comes only where there are at least `budget` labels, so a budget above
+/// the tour's number of labels is never spent. `NoMemory` where there is none for the labels or the
+/// bytes.
+pub fn plan_tour(
+    alloc: Global,
+    tour: &Tour,
+    log: &Timeline,
+    budget: u32,
+) -> Result<Planned, NoMemory>
+    requires tour { IsTour tour.now }
+    requires short { unit_minutes tour.now.params * length log.now ≤ LONGEST_LOG }
+    requires budget { IsBudget budget }
+    ensures { IfOk result (IsPlanned tour.now log.now budget) }
+{
+    match tour.params {
+        Params::UsProperty {
+            berth,
+            days,
+            day_start,
+        } => {
+            let book = UsBook::new(berth, days, day_start);
+            plan_by(alloc, &book, tour, log, budget)
+        }
+        Params::Canada {
+            berth,
+            way,
+            cycle,
+            day_start,
+        } => {
+            let book = CanadaBook::new(berth, way, cycle, day_start);
+            plan_by(alloc, &book, tour, log, budget)
+        }
+        Params::Hvnl {} => plan_by(alloc, &HvnlBook::new(alloc), tour, log, budget),
+    }
+}
