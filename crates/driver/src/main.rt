@@ -3,6 +3,12 @@
 #![tactic(auto)]
 
 #[cfg(test)]
+mod audits;
+#[cfg(test)]
+mod calls;
+#[cfg(test)]
+mod certificates;
+#[cfg(test)]
 mod tests;
 #[cfg(test)]
 mod worked_tours;

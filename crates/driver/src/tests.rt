@@ -1,99 +1,31 @@
-//! Calls of the planner over a desk and a sink in memory.
-use driver_cli::{Status, drive_tool};
-use duty_core::NoMemory;
-use outside::{MemoryDesk, MemorySink, Word};
+//! What the planner answers to words, and to files that hold no tour or no log.
+use crate::calls::{AUDIT, Given, PLAN, RESTED, call, stop, tour_of};
+use crate::worked_tours::US;
+use driver_cli::Status;
 use std::alloc::Global;
 use std::test::Fail;
 
-pub(crate) const PLAN: [&str; 3] = ["plan", "tour.json", "log.csv"];
-
-const AUDIT: [&str; 3] = ["audit", "tour.json", "log.csv"];
-
-/// A rested driver's log.
-pub(crate) const RESTED: &str = "from,to,status\n";
-
-/// What a call is given: its words, what the files `tour.json` and `log.csv` hold, the number of a
-/// fetch that is to fail, and after how many bytes the first send is to fail.
-#[derive(Clone, Copy)]
-pub(crate) struct Given<'a> {
-    words: &'a [&'a str],
-    tour: &'a [u8],
-    log: &'a [u8],
-    failing_fetch: Option<u32>,
-    failing_send: Option<u32>,
-}
-
-impl<'a> Given<'a> {
-    pub(crate) fn new(words: &'a [&'a str], tour: &'a str, log: &'a str) -> Given<'a> {
-        Given {
-            words,
-            tour: tour.as_bytes(),
-            log: log.as_bytes(),
-            failing_fetch: None,
-            failing_send: None,
-        }
-    }
-}
-
-/// A tour of the United States on half hours with these stops, in a truck without a berth.
-fn tour_of(alloc: Global, stops: &str) -> Result<String, NoMemory> {
-    tour_with(alloc, false, stops)
-}
-
-/// The same, in a truck with a berth or without one.
-fn tour_with(alloc: Global, berth: bool, stops: &str) -> Result<String, NoMemory> {
-    Ok(format!(in alloc;
-        r#"{{"book":"us","grid":30,"start":"2026-03-02T06:00","berth":{berth},"days":8,"day_start":"00:00","stops":[{stops}]}}"#
-    )?)
-}
-
-/// The form of stop A.
-pub(crate) fn stop(
-    alloc: Global,
-    drive: u32,
-    service: u32,
-    from: &str,
-    to: &str,
-) -> Result<String, NoMemory> {
-    Ok(format!(in alloc;
-        r#"{{"name":"A","drive":{drive},"service":{service},"windows":[["{from}","{to}"]]}}"#
-    )?)
-}
-
-/// How the call ends, and all that it sends.
-pub(crate) fn answer(alloc: Global, given: Given) -> Result<(Status, Vec<u8>), NoMemory> {
-    let mut desk = MemoryDesk::new(alloc);
-    desk.hold(&Word::new(alloc, "tour.json")?, given.tour)?;
-    desk.hold(&Word::new(alloc, "log.csv")?, given.log)?;
-    if let Some(number) = given.failing_fetch {
-        desk.fail_fetch(number)?;
-    }
-    let mut out = MemorySink::new(alloc);
-    if let Some(prefix) = given.failing_send {
-        out.fail_send(1, prefix)?;
-    }
-    let mut words = Vec::new(alloc);
-    for word in given.words {
-        words.push(Word::new(alloc, word)?)?;
-    }
-    let status = drive_tool(alloc, &words, &mut desk, &mut out);
-    Ok((status, out.bytes().to_vec(alloc)?))
-}
+const USAGE: &str =
+    "usage: driver plan TOUR LOG CERT [--budget N]\n       driver check TOUR LOG CERT\n       driver audit TOUR LOG\n";
 
 #[test]
 fn answers_words_and_faults(rt: HostRuntime) -> Result<(), Fail> {
-    let usage = "usage: driver plan TOUR LOG [--budget N]\n       driver audit TOUR LOG\n";
     let given = Given::new(&PLAN, "{}", "");
     let cases = [
         (given, Status::Refused, "tour refused: Missing book\n"),
-        (Given::new(&[], "{}", ""), Status::Usage, usage),
+        (Given::new(&[], "{}", ""), Status::Usage, USAGE),
         (
-            Given::new(&["plan", "tour.json"], "{}", ""),
+            Given::new(&["plan", "tour.json", "log.csv"], "{}", ""),
             Status::Usage,
-            usage,
+            USAGE,
         ),
         (
-            Given::new(&["plan", "no.json", "log.csv"], "{}", ""),
+            Given::new(&["audit", "tour.json", "log.csv", "plan.cert"], "{}", ""),
+            Status::Usage,
+            USAGE,
+        ),
+        (
+            Given::new(&["plan", "no.json", "log.csv", "plan.cert"], "{}", ""),
             Status::ReadFault,
             "read fault no.json\n",
         ),
@@ -115,9 +47,9 @@ fn answers_words_and_faults(rt: HostRuntime) -> Result<(), Fail> {
         ),
     ];
     for (given, status, text) in cases {
-        let (ended, sent) = answer(rt.alloc(), given)?;
-        assert_eq!(rt; ended, status, "where {text} is sent");
-        assert_eq!(rt; sent.as_slice(), text.as_bytes());
+        let told = call(rt.alloc(), given)?;
+        assert_eq!(rt; told.status, status, "where {text} is sent");
+        assert_eq!(rt; told.sent.as_slice(), text.as_bytes());
     }
     Ok(())
 }
@@ -134,17 +66,20 @@ fn refuses_tours(rt: HostRuntime) -> Result<(), Fail> {
         (twice.as_str(), "tour refused: DuplicateStop A\n"),
     ];
     for (stops, text) in cases {
-        let tour = tour_of(alloc, stops)?;
-        let (ended, sent) = answer(alloc, Given::new(&PLAN, tour.as_str(), RESTED))?;
-        assert_eq!(rt; ended, Status::Refused, "where {text} is sent");
-        assert_eq!(rt; sent.as_slice(), text.as_bytes());
+        let tour = tour_of(alloc, US, stops)?;
+        let told = call(alloc, Given::new(&PLAN, tour.as_str(), RESTED))?;
+        assert_eq!(rt; told.status, Status::Refused, "where {text} is sent");
+        assert_eq!(rt; told.sent.as_slice(), text.as_bytes());
     }
     let grid = format!(in alloc;
         r#"{{"book":"us","grid":7,"start":"2026-03-02T06:00","berth":false,"days":8,"day_start":"00:00","stops":[{good}]}}"#
     )?;
-    let (ended, sent) = answer(alloc, Given::new(&PLAN, grid.as_str(), RESTED))?;
-    assert_eq!(rt; ended, Status::Refused);
-    assert_eq!(rt; sent.as_slice(), "tour refused: BadValue grid\n".as_bytes());
+    let told = call(alloc, Given::new(&PLAN, grid.as_str(), RESTED))?;
+    assert_eq!(rt; told.status, Status::Refused);
+    assert_eq!(rt;
+        told.sent.as_slice(),
+        "tour refused: BadValue grid\n".as_bytes()
+    );
     Ok(())
 }
 
@@ -155,15 +90,17 @@ fn tells_each_fault_of_a_tour(rt: HostRuntime) -> Result<(), Fail> {
     for _ in 0..64 {
         many.push_str(",0")?;
     }
-    let many = tour_of(alloc, many.as_str())?;
-    let no_object = tour_of(alloc, "7")?;
-    let no_service = tour_of(alloc, r#"{"name":"A","drive":0,"windows":[]}"#)?;
+    let many = tour_of(alloc, US, many.as_str())?;
+    let no_object = tour_of(alloc, US, "7")?;
+    let no_service = tour_of(alloc, US, r#"{"name":"A","drive":0,"windows":[]}"#)?;
     let unknown = tour_of(
         alloc,
+        US,
         r#"{"name":"","drive":0,"service":0,"windows":[],"größe":1}"#,
     )?;
     let bad_drive = tour_of(
         alloc,
+        US,
         r#"{"name":"A","drive":30.0,"service":0,"windows":[]}"#,
     )?;
     let unknown_field = r#"{"book":"hvnl","grid":7,"start":"","stops":0,"zone":1}"#;
@@ -185,9 +122,9 @@ fn tells_each_fault_of_a_tour(rt: HostRuntime) -> Result<(), Fail> {
         (bad_drive.as_str(), "tour refused: BadValue drive stop 1\n"),
     ];
     for (tour, text) in cases {
-        let (ended, sent) = answer(alloc, Given::new(&PLAN, tour, RESTED))?;
-        assert_eq!(rt; ended, Status::Refused, "where {text} is sent");
-        assert_eq!(rt; sent.as_slice(), text.as_bytes());
+        let told = call(alloc, Given::new(&PLAN, tour, RESTED))?;
+        assert_eq!(rt; told.status, Status::Refused, "where {text} is sent");
+        assert_eq!(rt; told.sent.as_slice(), text.as_bytes());
     }
     Ok(())
 }
@@ -196,7 +133,7 @@ fn tells_each_fault_of_a_tour(rt: HostRuntime) -> Result<(), Fail> {
 fn tells_each_fault_of_a_log(rt: HostRuntime) -> Result<(), Fail> {
     let alloc = rt.alloc();
     let good = stop(alloc, 240, 60, "2026-03-02T06:00", "2026-03-02T10:00")?;
-    let tour = tour_of(alloc, good.as_str())?;
+    let tour = tour_of(alloc, US, good.as_str())?;
     let cases = [
         ("from,to", "log refused: BadHeader\n"),
         ("from,to,status\nD,D", "log refused: NotCsv 1\n"),
@@ -226,102 +163,74 @@ fn tells_each_fault_of_a_log(rt: HostRuntime) -> Result<(), Fail> {
         ),
     ];
     for (log, text) in cases {
-        let (ended, sent) = answer(alloc, Given::new(&PLAN, tour.as_str(), log))?;
-        assert_eq!(rt; ended, Status::Refused, "where {text} is sent");
-        assert_eq!(rt; sent.as_slice(), text.as_bytes());
+        let told = call(alloc, Given::new(&PLAN, tour.as_str(), log))?;
+        assert_eq!(rt; told.status, Status::Refused, "where {text} is sent");
+        assert_eq!(rt; told.sent.as_slice(), text.as_bytes());
     }
     Ok(())
 }
 
 #[test]
-fn refuses_other_bytes(rt: HostRuntime) -> Result<(), Fail> {
-    let alloc = rt.alloc();
-    let good = stop(alloc, 240, 60, "2026-03-02T06:00", "2026-03-02T10:00")?;
-    let tour = tour_of(alloc, good.as_str())?;
-    let long_tour = vec![in alloc; b' '; 1_000_001]?;
-    let given = Given {
-        tour: &long_tour,
-        ..Given::new(&PLAN, "", RESTED)
-    };
-    let (ended, sent) = answer(alloc, given)?;
-    assert_eq!(rt; ended, Status::Refused);
-    assert_eq!(rt; sent.as_slice(), "tour refused: TooBig\n".as_bytes());
-    let long_log = vec![in alloc; b'\n'; 4_000_001]?;
-    let given = Given {
-        log: &long_log,
-        ..Given::new(&PLAN, tour.as_str(), "")
-    };
-    let (ended, sent) = answer(alloc, given)?;
-    assert_eq!(rt; ended, Status::Refused);
-    assert_eq!(rt; sent.as_slice(), "log refused: TooBig\n".as_bytes());
-    let given = Given {
-        log: b"from,to,status\n\xff,2026-03-02T06:00,D\n",
-        ..Given::new(&PLAN, tour.as_str(), "")
-    };
-    let (ended, sent) = answer(alloc, given)?;
-    assert_eq!(rt; ended, Status::Refused);
-    assert_eq!(rt; sent.as_slice(), "log refused: BadTime 1\n".as_bytes());
-    Ok(())
-}
-
-#[test]
-fn plans_no_other_books_yet(rt: HostRuntime) -> Result<(), Fail> {
+fn tells_a_row_that_is_not_on_a_quarter(rt: HostRuntime) -> Result<(), Fail> {
     let alloc = rt.alloc();
     let good = stop(alloc, 240, 30, "2026-03-02T06:00", "2026-03-05T06:00")?;
-    let canada = format!(in alloc;
-        r#"{{"book":"canada","grid":30,"start":"2026-03-02T06:00","berth":false,"rest":"split","cycle":1,"day_start":"00:00","stops":[{good}]}}"#
-    )?;
-    let australia = format!(in alloc;
-        r#"{{"book":"hvnl","grid":15,"start":"2026-03-02T06:00","stops":[{good}]}}"#
-    )?;
-    for tour in [canada.as_str(), australia.as_str()] {
-        for words in [PLAN, AUDIT] {
-            let (ended, sent) = answer(alloc, Given::new(&words, tour, "no log"))?;
-            assert_eq!(rt; ended, Status::Refused);
-            assert_eq!(rt; sent.as_slice(), "tour refused: NotYet\n".as_bytes());
-        }
-    }
+    let head = r#""book":"hvnl","grid":15,"start":"2026-03-02T06:00""#;
+    let tour = tour_of(alloc, head, good.as_str())?;
+    let log =
+        "from,to,status\n2026-03-02T05:00,2026-03-02T05:50,WORK\n2026-03-02T05:50,2026-03-02T06:00,REST\n";
+    let told = call(alloc, Given::new(&AUDIT, tour.as_str(), log))?;
+    assert_eq!(rt; told.status, Status::Refused);
+    assert_eq!(rt;
+        told.sent.as_slice(),
+        "log refused: NotOnUnit 1\n".as_bytes()
+    );
+    Ok(())
+}
+
+/// Whether a plan of these files is refused with this text.
+fn is_refused(alloc: Global, tour: &[u8], log: &[u8], text: &str) -> Result<bool, Fail> {
+    let given = Given {
+        tour,
+        log,
+        ..Given::new(&PLAN, "", "")
+    };
+    let told = call(alloc, given)?;
+    Ok(told.status == Status::Refused && told.sent.as_slice() == text.as_bytes())
+}
+
+#[test]
+fn refuses_long_files(rt: HostRuntime) -> Result<(), Fail> {
+    let alloc = rt.alloc();
+    let good = stop(alloc, 240, 60, "2026-03-02T06:00", "2026-03-02T10:00")?;
+    let tour = tour_of(alloc, US, good.as_str())?;
+    let spaces = vec![in alloc; b' '; 1_000_001]?;
+    assert!(rt; is_refused(alloc, &spaces, RESTED.as_bytes(), "tour refused: TooBig\n")?);
+    let lines = vec![in alloc; b'\n'; 4_000_001]?;
+    assert!(rt;
+        is_refused(
+            alloc,
+            tour.as_str().as_bytes(),
+            &lines,
+            "log refused: TooBig\n"
+        )?
+    );
     Ok(())
 }
 
 #[test]
-fn judges_logs(rt: HostRuntime) -> Result<(), Fail> {
+fn refuses_a_row_of_other_bytes(rt: HostRuntime) -> Result<(), Fail> {
     let alloc = rt.alloc();
     let good = stop(alloc, 240, 60, "2026-03-02T06:00", "2026-03-02T10:00")?;
-    let tour = tour_of(alloc, good.as_str())?;
-    let gap =
-        "from,to,status\n2026-03-02T04:00,2026-03-02T05:00,D\n2026-03-02T05:30,2026-03-02T06:00,D\n";
-    let long = "from,to,status\n2026-03-01T18:00,2026-03-02T06:00,D\n";
-    let cases = [
-        (AUDIT, RESTED, Status::Done, "lawful\n"),
-        (AUDIT, gap, Status::Refused, "log refused: Gap 2\n"),
-        (PLAN, gap, Status::Refused, "log refused: Gap 2\n"),
-        (PLAN, "", Status::Refused, "log refused: BadHeader\n"),
-        (
-            AUDIT,
-            long,
-            Status::LogUnlawful,
-            "log unlawful at 2026-03-02T02:00\n",
-        ),
-        (
-            PLAN,
-            long,
-            Status::LogUnlawful,
-            "log unlawful at 2026-03-02T02:00\n",
-        ),
-    ];
-    for (words, log, status, text) in cases {
-        let (ended, sent) = answer(alloc, Given::new(&words, tour.as_str(), log))?;
-        assert_eq!(rt; ended, status, "where {text} is sent");
-        assert_eq!(rt; sent.as_slice(), text.as_bytes());
-    }
-    let missing = Given {
-        failing_fetch: Some(2),
-        ..Given::new(&AUDIT, tour.as_str(), RESTED)
-    };
-    let (ended, sent) = answer(alloc, missing)?;
-    assert_eq!(rt; ended, Status::ReadFault);
-    assert_eq!(rt; sent.as_slice(), "read fault log.csv\n".as_bytes());
+    let tour = tour_of(alloc, US, good.as_str())?;
+    let log = b"from,to,status\n\xff,2026-03-02T06:00,D\n";
+    assert!(rt;
+        is_refused(
+            alloc,
+            tour.as_str().as_bytes(),
+            log,
+            "log refused: BadTime 1\n"
+        )?
+    );
     Ok(())
 }
 
@@ -341,60 +250,10 @@ fn plans_behind_a_log(rt: HostRuntime) -> Result<(), Fail> {
     ];
     for (closes, status, text) in cases {
         let stop = stop(alloc, 240, 30, "2026-03-02T06:00", closes)?;
-        let tour = tour_of(alloc, stop.as_str())?;
-        let (ended, sent) = answer(alloc, Given::new(&PLAN, tour.as_str(), tired))?;
-        assert_eq!(rt; ended, status, "where {text} is sent");
-        assert!(rt; sent.as_slice().starts_with(text.as_bytes()));
-    }
-    Ok(())
-}
-
-/// The days before a tour, each in a truck with a berth or without one: whether its log is lawful,
-/// or where it is not.
-const AUDITED: [(bool, &str, &str); 6] = [
-    (
-        false,
-        "2026-03-01T00:00,2026-03-01T14:00,ON\n2026-03-01T14:00,2026-03-01T14:01,D\n2026-03-01T14:01,2026-03-02T06:00,OFF\n",
-        "log unlawful at 2026-03-01T14:00\n",
-    ),
-    (
-        false,
-        "2026-03-01T00:00,2026-03-01T13:59,ON\n2026-03-01T13:59,2026-03-01T14:00,D\n2026-03-01T14:00,2026-03-02T06:00,OFF\n",
-        "lawful\n",
-    ),
-    (
-        true,
-        "2026-03-01T00:00,2026-03-01T05:00,D\n2026-03-01T05:00,2026-03-01T12:00,SB\n2026-03-01T12:00,2026-03-01T17:00,D\n2026-03-01T17:00,2026-03-01T20:00,OFF\n2026-03-01T20:00,2026-03-02T02:00,D\n2026-03-02T02:00,2026-03-02T06:00,OFF\n",
-        "lawful\n",
-    ),
-    (
-        true,
-        "2026-03-01T00:00,2026-03-01T05:00,D\n2026-03-01T05:00,2026-03-01T12:00,SB\n2026-03-01T12:00,2026-03-01T17:00,D\n2026-03-01T17:00,2026-03-01T20:00,OFF\n2026-03-01T20:00,2026-03-02T02:01,D\n2026-03-02T02:01,2026-03-02T06:00,OFF\n",
-        "log unlawful at 2026-03-02T02:00\n",
-    ),
-    (
-        true,
-        "2026-03-01T00:00,2026-03-01T05:00,D\n2026-03-01T05:00,2026-03-01T12:00,SB\n2026-03-01T12:00,2026-03-01T17:00,D\n2026-03-01T17:00,2026-03-01T19:59,OFF\n2026-03-01T19:59,2026-03-02T02:00,D\n2026-03-02T02:00,2026-03-02T06:00,OFF\n",
-        "log unlawful at 2026-03-01T20:59\n",
-    ),
-    (
-        false,
-        "2026-03-01T00:00,2026-03-01T05:00,D\n2026-03-01T05:00,2026-03-01T12:00,SB\n2026-03-01T12:00,2026-03-01T17:00,D\n2026-03-01T17:00,2026-03-01T20:00,OFF\n2026-03-01T20:00,2026-03-02T02:00,D\n2026-03-02T02:00,2026-03-02T06:00,OFF\n",
-        "log unlawful at 2026-03-01T14:00\n",
-    ),
-];
-
-#[test]
-fn audits_days_of_work_and_rest(rt: HostRuntime) -> Result<(), Fail> {
-    let alloc = rt.alloc();
-    let stop = stop(alloc, 240, 60, "2026-03-02T06:00", "2026-03-02T10:00")?;
-    for (berth, rows, text) in AUDITED {
-        let tour = tour_with(alloc, berth, stop.as_str())?;
-        let log = format!(in alloc; "from,to,status\n{rows}")?;
-        let (ended, sent) = answer(alloc, Given::new(&AUDIT, tour.as_str(), log.as_str()))?;
-        let lawful = sent.as_slice() == "lawful\n".as_bytes();
-        assert_eq!(rt; ended == Status::Done, lawful, "where {text} is sent");
-        assert_eq!(rt; sent.as_slice(), text.as_bytes());
+        let tour = tour_of(alloc, US, stop.as_str())?;
+        let told = call(alloc, Given::new(&PLAN, tour.as_str(), tired))?;
+        assert_eq!(rt; told.status, status, "where {text} is sent");
+        assert!(rt; told.sent.as_slice().starts_with(text.as_bytes()));
     }
     Ok(())
 }
@@ -403,22 +262,28 @@ fn audits_days_of_work_and_rest(rt: HostRuntime) -> Result<(), Fail> {
 fn spends_a_small_budget(rt: HostRuntime) -> Result<(), Fail> {
     let alloc = rt.alloc();
     let stop = stop(alloc, 690, 30, "2026-03-02T06:00", "2026-03-03T03:30")?;
-    let tour = tour_of(alloc, stop.as_str())?;
-    let usage = "usage: driver plan TOUR LOG [--budget N]\n       driver audit TOUR LOG\n";
+    let tour = tour_of(alloc, US, stop.as_str())?;
     let cases = [
         ("3", Status::Spent, "spent 3\n"),
         ("500000", Status::Done, "shortest 22:00 from "),
-        ("0", Status::Usage, usage),
-        ("500001", Status::Usage, usage),
-        ("03", Status::Usage, usage),
-        ("+3", Status::Usage, usage),
-        ("", Status::Usage, usage),
+        ("0", Status::Usage, USAGE),
+        ("500001", Status::Usage, USAGE),
+        ("03", Status::Usage, USAGE),
+        ("+3", Status::Usage, USAGE),
+        ("", Status::Usage, USAGE),
     ];
     for (budget, status, text) in cases {
-        let words = ["plan", "tour.json", "log.csv", "--budget", budget];
-        let (ended, sent) = answer(alloc, Given::new(&words, tour.as_str(), RESTED))?;
-        assert_eq!(rt; ended, status, "where {text} is sent");
-        assert!(rt; sent.as_slice().starts_with(text.as_bytes()));
+        let words = [
+            "plan",
+            "tour.json",
+            "log.csv",
+            "plan.cert",
+            "--budget",
+            budget,
+        ];
+        let told = call(alloc, Given::new(&words, tour.as_str(), RESTED))?;
+        assert_eq!(rt; told.status, status, "where {text} is sent");
+        assert!(rt; told.sent.as_slice().starts_with(text.as_bytes()));
     }
     Ok(())
 }

@@ -1,51 +1,63 @@
-//! Tours worked by hand: how long a shortest schedule takes, and when it may depart.
-use crate::tests::{Given, PLAN, RESTED, answer, stop};
+//! Tours worked by hand: how long a shortest schedule takes, and when it may depart. Each answer has a
+//! certificate that is accepted.
+use crate::calls::{
+    CHECK, Given, MONDAY, Outcome, PLAN, RESTED, THURSDAY, call, named, stop, tour_of,
+};
 use driver_cli::Status;
 use duty_core::NoMemory;
 use std::alloc::Global;
 use std::process::Abort;
 use std::test::Fail;
 
-/// A tour of the United States: its grid, its start, whether there is a berth, and its stops.
-#[derive(Clone, Copy)]
-struct Form<'a> {
-    grid: u32,
-    start: &'a str,
-    berth: bool,
-    stops: &'a str,
-}
+/// A tour of the United States on half hours from Monday 06:00, in a truck without a berth.
+pub(crate) const US: &str =
+    r#""book":"us","grid":30,"start":"2026-03-02T06:00","berth":false,"days":8,"day_start":"00:00""#;
 
-impl<'a> Form<'a> {
-    /// A tour on half hours from Monday 06:00, in a truck without a berth.
-    fn monday(stops: &'a str) -> Form<'a> {
-        Form {
-            grid: 30,
-            start: "2026-03-02T06:00",
-            berth: false,
-            stops,
-        }
-    }
+/// The same in a truck with a berth.
+pub(crate) const US_BERTH: &str =
+    r#""book":"us","grid":30,"start":"2026-03-02T06:00","berth":true,"days":8,"day_start":"00:00""#;
 
-    fn text(&self, alloc: Global) -> Result<String, NoMemory> {
-        let (grid, start, berth, stops) = (self.grid, self.start, self.berth, self.stops);
-        Ok(format!(in alloc;
-            r#"{{"book":"us","grid":{grid},"start":"{start}","berth":{berth},"days":8,"day_start":"00:00","stops":[{stops}]}}"#
-        )?)
-    }
-}
+/// Tours of Canada on half hours from Monday 06:00: without a berth, by deferral; and by split rests
+/// without a berth and with one.
+const CANADA_DEFER: &str =
+    r#""book":"canada","grid":30,"start":"2026-03-02T06:00","berth":false,"rest":"defer","cycle":1,"day_start":"00:00""#;
 
-/// The form of a stop with one window.
-fn named(
+const CANADA_SPLIT: &str =
+    r#""book":"canada","grid":30,"start":"2026-03-02T06:00","berth":false,"rest":"split","cycle":1,"day_start":"00:00""#;
+
+const CANADA_BERTH: &str =
+    r#""book":"canada","grid":30,"start":"2026-03-02T06:00","berth":true,"rest":"split","cycle":1,"day_start":"00:00""#;
+
+/// A tour of Australia on quarter hours from Monday 06:00.
+const AUSTRALIA: &str = r#""book":"hvnl","grid":15,"start":"2026-03-02T06:00""#;
+
+/// What planning the tour of this form behind the log does.
+pub(crate) fn planned(
     alloc: Global,
-    name: &str,
-    work: (u32, u32),
-    from: &str,
-    to: &str,
-) -> Result<String, NoMemory> {
-    let (drive, service) = work;
-    Ok(format!(in alloc;
-        r#"{{"name":"{name}","drive":{drive},"service":{service},"windows":[["{from}","{to}"]]}}"#
-    )?)
+    head: &str,
+    stops: &str,
+    log: &str,
+) -> Result<Outcome, NoMemory> {
+    let tour = tour_of(alloc, head, stops)?;
+    call(alloc, Given::new(&PLAN, tour.as_str(), log))
+}
+
+/// What checking a certificate of that tour does.
+pub(crate) fn checked(
+    alloc: Global,
+    head: &str,
+    stops: &str,
+    log: &str,
+    cert: &[u8],
+) -> Result<Outcome, NoMemory> {
+    let tour = tour_of(alloc, head, stops)?;
+    call(
+        alloc,
+        Given {
+            cert: Some(cert),
+            ..Given::new(&CHECK, tour.as_str(), log)
+        },
+    )
 }
 
 /// Whether the text tells a shortest schedule of this duration that departs between these times.
@@ -63,110 +75,95 @@ fn tells(sent: &[u8], duration: &str, least: &str, most: &str) -> bool {
         && departs <= most.as_bytes()
 }
 
-/// Checks that a shortest schedule takes so long and departs between these times.
+/// Checks that a shortest schedule takes so long and departs between these times, and that its
+/// certificate is accepted.
 fn takes(
     rt: &impl Abort,
     alloc: Global,
-    form: &Form,
+    head: &str,
+    stops: &str,
     log: &str,
     duration: &str,
-    least: &str,
-    most: &str,
+    departs: (&str, &str),
 ) -> Result<(), Fail> {
-    let tour = form.text(alloc)?;
-    let (ended, sent) = answer(alloc, Given::new(&PLAN, tour.as_str(), log))?;
-    assert_eq!(rt; ended, Status::Done, "where it takes {duration}");
-    assert!(rt; tells(&sent, duration, least, most));
+    let (least, most) = departs;
+    let plan = planned(alloc, head, stops, log)?;
+    assert_eq!(rt; plan.status, Status::Done, "where it takes {duration}");
+    assert!(rt; tells(&plan.sent, duration, least, most));
+    let cert = plan.cert.unwrap_or(Vec::new(alloc));
+    let check = checked(alloc, head, stops, log, &cert)?;
+    assert_eq!(rt; check.status, Status::Done, "where it takes {duration}");
+    let accepted = format!(in alloc; "accepted shortest {duration}\n")?;
+    assert_eq!(rt; check.sent.as_slice(), accepted.as_bytes());
     Ok(())
 }
 
-/// Checks that there is no schedule.
-fn has_none(rt: &impl Abort, alloc: Global, form: &Form, log: &str) -> Result<(), Fail> {
-    let tour = form.text(alloc)?;
-    let (ended, sent) = answer(alloc, Given::new(&PLAN, tour.as_str(), log))?;
-    assert_eq!(rt; ended, Status::Infeasible);
-    assert_eq!(rt; sent.as_slice(), "infeasible\n".as_bytes());
+/// Checks that there is no schedule, and that the certificate of it is accepted.
+fn has_none(
+    rt: &impl Abort,
+    alloc: Global,
+    head: &str,
+    stops: &str,
+    log: &str,
+) -> Result<(), Fail> {
+    let plan = planned(alloc, head, stops, log)?;
+    assert_eq!(rt; plan.status, Status::Infeasible);
+    assert_eq!(rt; plan.sent.as_slice(), "infeasible\n".as_bytes());
+    let cert = plan.cert.unwrap_or(Vec::new(alloc));
+    let check = checked(alloc, head, stops, log, &cert)?;
+    assert_eq!(rt; check.status, Status::Done);
+    assert_eq!(rt; check.sent.as_slice(), "accepted infeasible\n".as_bytes());
     Ok(())
 }
-
-const MONDAY: &str = "2026-03-02T06:00";
-
-const THURSDAY: &str = "2026-03-05T06:00";
 
 #[test]
 fn drives_within_a_shift_and_its_break(rt: HostRuntime) -> Result<(), Fail> {
     let alloc = rt.alloc();
+    let wide = (MONDAY, THURSDAY);
     let plain = stop(alloc, 240, 60, MONDAY, THURSDAY)?;
-    takes(
-        &rt,
-        alloc,
-        &Form::monday(plain.as_str()),
-        RESTED,
-        "5:00",
-        MONDAY,
-        THURSDAY,
-    )?;
+    takes(&rt, alloc, US, plain.as_str(), RESTED, "5:00", wide)?;
     let eleven = stop(alloc, 660, 30, MONDAY, THURSDAY)?;
-    takes(
-        &rt,
-        alloc,
-        &Form::monday(eleven.as_str()),
-        RESTED,
-        "12:00",
-        MONDAY,
-        THURSDAY,
-    )?;
+    takes(&rt, alloc, US, eleven.as_str(), RESTED, "12:00", wide)?;
     let eight = stop(alloc, 480, 30, MONDAY, THURSDAY)?;
     let three = named(alloc, "B", (180, 30), MONDAY, THURSDAY)?;
     let served = format!(in alloc; "{eight},{three}")?;
-    takes(
-        &rt,
-        alloc,
-        &Form::monday(served.as_str()),
-        RESTED,
-        "12:00",
-        MONDAY,
-        THURSDAY,
-    )
+    takes(&rt, alloc, US, served.as_str(), RESTED, "12:00", wide)
 }
 
 #[test]
 fn rests_overnight_where_it_must(rt: HostRuntime) -> Result<(), Fail> {
     let alloc = rt.alloc();
+    let wide = (MONDAY, THURSDAY);
     let long = stop(alloc, 690, 30, MONDAY, THURSDAY)?;
-    takes(
-        &rt,
-        alloc,
-        &Form::monday(long.as_str()),
-        RESTED,
-        "22:00",
-        MONDAY,
-        THURSDAY,
-    )?;
+    takes(&rt, alloc, US, long.as_str(), RESTED, "22:00", wide)?;
     let early = stop(alloc, 690, 30, MONDAY, "2026-03-03T00:00")?;
-    has_none(&rt, alloc, &Form::monday(early.as_str()), RESTED)
+    has_none(&rt, alloc, US, early.as_str(), RESTED)
+}
+
+/// Three stops, two of which fix the time.
+pub(crate) fn fixed_stops(alloc: Global, last_drive: u32) -> Result<String, NoMemory> {
+    let noon = "2026-03-02T15:00";
+    let first = stop(alloc, 0, 30, MONDAY, MONDAY)?;
+    let second = named(alloc, "B", (300, 30), noon, noon)?;
+    let third = named(alloc, "C", (last_drive, 30), MONDAY, THURSDAY)?;
+    Ok(format!(in alloc; "{first},{second},{third}")?)
 }
 
 #[test]
 fn splits_its_rest_in_the_berth(rt: HostRuntime) -> Result<(), Fail> {
     let alloc = rt.alloc();
-    let first = stop(alloc, 0, 30, MONDAY, MONDAY)?;
-    let second = named(
+    let at_once = (MONDAY, MONDAY);
+    let stops = fixed_stops(alloc, 390)?;
+    takes(&rt, alloc, US, stops.as_str(), RESTED, "26:30", at_once)?;
+    takes(
+        &rt,
         alloc,
-        "B",
-        (300, 30),
-        "2026-03-02T15:00",
-        "2026-03-02T15:00",
-    )?;
-    let third = named(alloc, "C", (390, 30), MONDAY, THURSDAY)?;
-    let stops = format!(in alloc; "{first},{second},{third}")?;
-    let lone = Form::monday(stops.as_str());
-    takes(&rt, alloc, &lone, RESTED, "26:30", MONDAY, MONDAY)?;
-    let berth = Form {
-        berth: true,
-        ..Form::monday(stops.as_str())
-    };
-    takes(&rt, alloc, &berth, RESTED, "23:30", MONDAY, MONDAY)
+        US_BERTH,
+        stops.as_str(),
+        RESTED,
+        "23:30",
+        at_once,
+    )
 }
 
 /// Ten hours of service on each day of a week, and rest between and up to the start.
@@ -190,27 +187,14 @@ const FULL_WEEK: &str = "from,to,status
 #[test]
 fn waits_until_a_day_leaves_the_week(rt: HostRuntime) -> Result<(), Fail> {
     let alloc = rt.alloc();
+    let head =
+        r#""book":"us","grid":30,"start":"2026-03-09T06:00","berth":false,"days":8,"day_start":"00:00""#;
     let start = "2026-03-09T06:00";
     let wide = stop(alloc, 120, 30, start, "2026-03-11T06:00")?;
-    let form = Form {
-        start,
-        ..Form::monday(wide.as_str())
-    };
-    takes(
-        &rt,
-        alloc,
-        &form,
-        FULL_WEEK,
-        "2:30",
-        "2026-03-10T00:00",
-        "2026-03-11T06:00",
-    )?;
+    let departs = ("2026-03-10T00:00", "2026-03-11T06:00");
+    takes(&rt, alloc, head, wide.as_str(), FULL_WEEK, "2:30", departs)?;
     let early = stop(alloc, 120, 30, start, "2026-03-09T20:00")?;
-    let form = Form {
-        start,
-        ..Form::monday(early.as_str())
-    };
-    has_none(&rt, alloc, &form, FULL_WEEK)
+    has_none(&rt, alloc, head, early.as_str(), FULL_WEEK)
 }
 
 /// Fourteen hours of service on each of five days, and rest between and up to the start.
@@ -230,28 +214,23 @@ const FIVE_LONG_DAYS: &str = "from,to,status
 #[test]
 fn begins_the_week_anew_after_a_restart(rt: HostRuntime) -> Result<(), Fail> {
     let alloc = rt.alloc();
+    let head =
+        r#""book":"us","grid":30,"start":"2026-03-08T06:00","berth":false,"days":8,"day_start":"00:00""#;
     let start = "2026-03-08T06:00";
     let restarted = "2026-03-09T06:00";
     let late = stop(alloc, 120, 30, start, "2026-03-09T08:00")?;
-    let form = Form {
-        start,
-        ..Form::monday(late.as_str())
-    };
+    let departs = (restarted, restarted);
     takes(
         &rt,
         alloc,
-        &form,
+        head,
+        late.as_str(),
         FIVE_LONG_DAYS,
         "2:30",
-        restarted,
-        restarted,
+        departs,
     )?;
     let early = stop(alloc, 120, 30, start, "2026-03-09T07:30")?;
-    let form = Form {
-        start,
-        ..Form::monday(early.as_str())
-    };
-    has_none(&rt, alloc, &form, FIVE_LONG_DAYS)
+    has_none(&rt, alloc, head, early.as_str(), FIVE_LONG_DAYS)
 }
 
 /// Nine hours of service on each of five days, and rest between and up to the start.
@@ -271,6 +250,8 @@ const WORKING_WEEK: &str = "from,to,status
 #[test]
 fn plans_two_days_of_four_stops(rt: HostRuntime) -> Result<(), Fail> {
     let alloc = rt.alloc();
+    let head =
+        r#""book":"us","grid":15,"start":"2026-03-02T06:00","berth":true,"days":8,"day_start":"00:00""#;
     let first = stop(alloc, 90, 45, "2026-03-02T07:30", "2026-03-02T08:00")?;
     let second = named(
         alloc,
@@ -294,50 +275,156 @@ fn plans_two_days_of_four_stops(rt: HostRuntime) -> Result<(), Fail> {
         "2026-03-03T08:00",
     )?;
     let stops = format!(in alloc; "{first},{second},{third},{fourth}")?;
-    let form = Form {
-        grid: 15,
-        berth: true,
-        ..Form::monday(stops.as_str())
-    };
+    let departs = (MONDAY, "2026-03-02T06:30");
     takes(
         &rt,
         alloc,
-        &form,
+        head,
+        stops.as_str(),
         WORKING_WEEK,
         "25:45",
-        MONDAY,
-        "2026-03-02T06:30",
+        departs,
     )
 }
 
 #[test]
 fn plans_up_to_the_last_minute_of_the_horizon(rt: HostRuntime) -> Result<(), Fail> {
     let alloc = rt.alloc();
-    let far = stop(alloc, 240, 30, MONDAY, "2026-03-16T05:30")?;
-    takes(
-        &rt,
-        alloc,
-        &Form::monday(far.as_str()),
-        RESTED,
-        "4:30",
-        MONDAY,
-        "2026-03-16T05:30",
-    )
+    let last = "2026-03-16T05:30";
+    let far = stop(alloc, 240, 30, MONDAY, last)?;
+    takes(&rt, alloc, US, far.as_str(), RESTED, "4:30", (MONDAY, last))
 }
 
 #[test]
 fn rounds_times_to_its_grid(rt: HostRuntime) -> Result<(), Fail> {
     let alloc = rt.alloc();
     let rounded = stop(alloc, 31, 1, "2026-03-02T09:10", THURSDAY)?;
+    let departs = ("2026-03-02T08:30", THURSDAY);
+    takes(&rt, alloc, US, rounded.as_str(), RESTED, "1:30", departs)?;
+    let empty = stop(alloc, 0, 30, "2026-03-02T06:10", "2026-03-02T06:20")?;
+    has_none(&rt, alloc, US, empty.as_str(), RESTED)
+}
+
+#[test]
+fn plans_a_canadian_shift_and_its_rest(rt: HostRuntime) -> Result<(), Fail> {
+    let alloc = rt.alloc();
+    let wide = (MONDAY, THURSDAY);
+    let shift = stop(alloc, 780, 30, MONDAY, THURSDAY)?;
     takes(
         &rt,
         alloc,
-        &Form::monday(rounded.as_str()),
+        CANADA_DEFER,
+        shift.as_str(),
         RESTED,
-        "1:30",
-        "2026-03-02T08:30",
-        THURSDAY,
+        "13:30",
+        wide,
     )?;
-    let empty = stop(alloc, 0, 30, "2026-03-02T06:10", "2026-03-02T06:20")?;
-    has_none(&rt, alloc, &Form::monday(empty.as_str()), RESTED)
+    let longer = stop(alloc, 840, 30, MONDAY, THURSDAY)?;
+    takes(
+        &rt,
+        alloc,
+        CANADA_DEFER,
+        longer.as_str(),
+        RESTED,
+        "22:30",
+        wide,
+    )
+}
+
+#[test]
+fn defers_rest_only_where_it_may(rt: HostRuntime) -> Result<(), Fail> {
+    let alloc = rt.alloc();
+    let midnight = "2026-03-02T00:00";
+    let one = "2026-03-02T13:00";
+    let stop = stop(alloc, 780, 180, one, one)?;
+    let defer =
+        r#""book":"canada","grid":30,"start":"2026-03-02T00:00","berth":false,"rest":"defer","cycle":1,"day_start":"00:00""#;
+    let split =
+        r#""book":"canada","grid":30,"start":"2026-03-02T00:00","berth":false,"rest":"split","cycle":1,"day_start":"00:00""#;
+    let departs = (midnight, midnight);
+    takes(&rt, alloc, defer, stop.as_str(), RESTED, "16:00", departs)?;
+    has_none(&rt, alloc, split, stop.as_str(), RESTED)
+}
+
+#[test]
+fn splits_its_rest_in_a_canadian_berth(rt: HostRuntime) -> Result<(), Fail> {
+    let alloc = rt.alloc();
+    let at_once = (MONDAY, MONDAY);
+    let stops = fixed_stops(alloc, 540)?;
+    takes(
+        &rt,
+        alloc,
+        CANADA_BERTH,
+        stops.as_str(),
+        RESTED,
+        "25:30",
+        at_once,
+    )?;
+    takes(
+        &rt,
+        alloc,
+        CANADA_SPLIT,
+        stops.as_str(),
+        RESTED,
+        "27:00",
+        at_once,
+    )
+}
+
+#[test]
+fn rests_a_quarter_of_an_hour_in_australia(rt: HostRuntime) -> Result<(), Fail> {
+    let alloc = rt.alloc();
+    let at_once = (MONDAY, MONDAY);
+    let five = stop(alloc, 300, 15, MONDAY, "2026-03-02T11:00")?;
+    takes(
+        &rt,
+        alloc,
+        AUSTRALIA,
+        five.as_str(),
+        RESTED,
+        "5:15",
+        at_once,
+    )?;
+    let more = stop(alloc, 315, 15, MONDAY, "2026-03-02T11:30")?;
+    takes(
+        &rt,
+        alloc,
+        AUSTRALIA,
+        more.as_str(),
+        RESTED,
+        "5:45",
+        at_once,
+    )?;
+    let twelve = stop(alloc, 705, 15, MONDAY, "2026-03-02T18:45")?;
+    takes(
+        &rt,
+        alloc,
+        AUSTRALIA,
+        twelve.as_str(),
+        RESTED,
+        "13:00",
+        at_once,
+    )
+}
+
+/// Twelve hours of work in thirteen, up to the evening.
+const WORKED_DAY: &str = "from,to,status
+2026-03-02T06:00,2026-03-02T11:00,WORK
+2026-03-02T11:00,2026-03-02T11:30,REST
+2026-03-02T11:30,2026-03-02T16:00,WORK
+2026-03-02T16:00,2026-03-02T16:30,REST
+2026-03-02T16:30,2026-03-02T19:00,WORK
+";
+
+#[test]
+fn waits_for_the_end_of_an_australian_day(rt: HostRuntime) -> Result<(), Fail> {
+    let alloc = rt.alloc();
+    let head = r#""book":"hvnl","grid":15,"start":"2026-03-02T19:00""#;
+    let evening = "2026-03-02T19:00";
+    let noon = "2026-03-03T12:00";
+    let wide = stop(alloc, 0, 15, evening, noon)?;
+    let departs = ("2026-03-03T06:00", noon);
+    takes(&rt, alloc, head, wide.as_str(), WORKED_DAY, "0:15", departs)?;
+    let early = stop(alloc, 0, 15, evening, "2026-03-03T05:45")?;
+    has_none(&rt, alloc, head, early.as_str(), WORKED_DAY)
 }

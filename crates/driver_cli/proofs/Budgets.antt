@@ -1,14 +1,14 @@
 -- Budgets in words.
-use Rattle.std.proofs.Common.{◌≡◌, ℕ, ◌+◌, ◌^◌, ◌<◌, ◌≤◌, List, [], ◌∷◌, length, get_or, refl, sym, ◌∙◌, ap, subst, arith, Result, Ok, Err, inl, inr, zero, suc}
-use Rattle.std.specs.Prelude.{codes}
+use Rattle.std.proofs.Common.{◌≡◌, ℕ, ◌^◌, ◌<◌, ◌≤◌, List, [], ◌∷◌, length, get_or, sym, ◌∙◌, ap, arith, Result, Ok, inl, inr, zero, suc}
 use Rattle.std.specs.Fmt.{decimal}
 use Rattle.std.specs.Str.Parse.{ParsesUnsigned, AllDigits, digits_value}
 use Rattle.std.proofs.lemmas.Fmt.{parse-decimal, decimal-digits_value, decimal_digit, first_decimal, decimal_is_IsNumeral}
 use Rattle.std.proofs.lemmas.Str.Parse.{IsNumeralModel, numerals_by_value, tells_digits, parse_plain, digit_at}
 use Rattle.outside.specs.Outside.{Bytes}
 use Rattle.driver_cli.specs.declared.command.Command.{Command}
-use Rattle.driver_cli.specs.declared.command.Command.TheVariants.{Plan, Audit}
-use Rattle.driver_cli.specs.Command.{IsBudget, HasBudget, IsSentence, IsNoSentence}
+use Rattle.driver_cli.specs.declared.command.Command.TheVariants.{Plan, Check, Audit}
+use Rattle.tour_plan.specs.Planned.{IsBudget}
+use Rattle.driver_cli.specs.Command.{HasBudget, IsSentence}
 
 own : IsNumeralModel (AllDigits 10) (digits_value 10)
 own = numerals_by_value (AllDigits 10) tells_digits
@@ -44,13 +44,8 @@ pub budget_is_read : {E : Type 0} (bs : List ℕ) (n : ℕ) (r : Result ℕ E) �
 budget_is_read bs n r h b e = let most = b.most in parse-decimal 32 n bs r (omega arith) (omega arith) e h
 
 -- what a sentence asks for may be given to a search
-pub sentence_budget : (words : List Bytes) (c : Command) (t l : Bytes) → IsSentence words c t l → HasBudget c
-sentence_budget words (Plan n) t l (inl p) = let e = p.1 in record { some = omega arith; most = omega arith }
-sentence_budget words (Plan n) t l (inr p) = p.1
-sentence_budget words Audit t l p = tt
-
--- words of other lengths are no sentence
-pub not_so_long : (words : List Bytes) → (length words ≡ 3 → ⊥) → (length words ≡ 5 → ⊥) → IsNoSentence words
-not_so_long words three five (Plan n) t l (inl p) = three (ap length p.0)
-not_so_long words three five (Plan n) t l (inr p) = five (ap length p.0)
-not_so_long words three five Audit t l p = three (ap length p)
+pub sentence_budget : (words : List Bytes) (c : Command) → IsSentence words c → HasBudget c
+sentence_budget words (Plan tour log cert budget) (inl s) = rw s.1 (record { some = omega arith; most = omega arith })
+sentence_budget words (Plan tour log cert budget) (inr s) = s.1
+sentence_budget words (Check tour log cert) s = tt
+sentence_budget words (Audit tour log) s = tt

@@ -1,9 +1,9 @@
 -- Minutes as hours and minutes.
-use Rattle.std.proofs.Common.{◌≡◌, ℕ, ◌*◌, ◌/◌, ◌%◌, ◌^◌, ◌-◌, ◌<◌, ◌≤◌, ◌⊎◌, inl, inr, [], ◌∷◌, ◌++◌, false, decimal, refl, sym, append_assoc, arith}
+use Rattle.std.proofs.Common.{◌≡◌, ℕ, ◌/◌, ◌%◌, ◌^◌, ◌-◌, ◌<◌, ◌≤◌, ◌⊎◌, inl, inr, [], ◌∷◌, ◌++◌, false, decimal, refl, sym, append_assoc, arith}
 use Rattle.std.specs.Fmt.{padded_integral, format_spec, styled_decimal, char_count}
 use Rattle.std.proofs.lemmas.Fmt.{decimal_digit, decimal_step}
 use Rattle.std.proofs.lemmas.Bool.{cases_lt}
-use Rattle.driver_cli.specs.Report.{clock_text, two_digits}
+use Rattle.driver_cli.specs.Parts.{clock_text, two_digits}
 
 -- a number of one digit, with a zero in front
 pad_one : (m : ℕ) → m < 10 → padded_integral (format_spec 32 0 4 2 (2 ^ 64 - 1)) false [] (decimal m) ≡ two_digits m

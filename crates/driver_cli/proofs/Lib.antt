@@ -3,8 +3,10 @@ pub mod Departure
 pub mod Clock
 pub mod RunLines
 pub mod Prefixes
-pub mod Composed
-pub mod Exactly
 pub mod Budgets
-pub mod Rebuilt
-pub mod MarkTimes
+pub mod Stages
+pub mod Exactly
+pub mod Sentences
+pub mod Ended
+pub mod Stepped
+pub mod MarkForms

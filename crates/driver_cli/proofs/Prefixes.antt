@@ -1,5 +1,5 @@
 -- Each prefix of a lawful history is lawful.
-use Rattle.std.proofs.Common.{◌≡◌, ℕ, List, ◌++◌, take, drop, subst, sym}
+use Rattle.std.proofs.Common.{ℕ, List, take, drop, subst, sym}
 use Rattle.std.proofs.lemmas.List.{take-append-drop}
 use Rattle.duty_core.specs.declared.activity.Activity.{Activity}
 use Rattle.duty_core.specs.declared.params.Params.{Params}

@@ -8,6 +8,7 @@ use Rattle.civil_minutes.specs.declared.century.TheConstants.{MINUTES_OF_CENTURY
 use Rattle.duty_core.specs.declared.activity.Activity.{Activity}
 use Rattle.duty_core.specs.declared.activity.Activity.TheVariants.{Drive, Serve, Wait, Off, Berth}
 use Rattle.duty_core.specs.declared.mark.Mark.{Mark}
+use Rattle.duty_core.specs.declared.params.Params.{Params}
 use Rattle.tour_model.specs.declared.limits.TheConstants.{LONGEST_TOUR, LATEST_START}
 use Rattle.tour_model.specs.declared.tour.Tour.{Tour}
 use Rattle.tour_model.specs.Tour.{IsTour}
@@ -165,10 +166,10 @@ minute_within tour n step t short le =
 
 -- ---- marks
 
-pub mark_lines_more : (marks : List Mark) (i : ℕ) (d : Mark) → i < length marks → mark_lines (take (i + 1) marks) ≡ mark_lines (take i marks) ++ mark_line (get_or marks i d)
-mark_lines_more [] i d l = absurd (omega arith)
-mark_lines_more (m ∷ marks) zero d l = append-nil (mark_line m)
-mark_lines_more (m ∷ marks) (suc i) d l =
+pub mark_lines_more : (params : Params) (marks : List Mark) (i : ℕ) (d : Mark) → i < length marks → mark_lines params (take (i + 1) marks) ≡ mark_lines params (take i marks) ++ mark_line params (get_or marks i d)
+mark_lines_more params [] i d l = absurd (omega arith)
+mark_lines_more params (m ∷ marks) zero d l = append-nil (mark_line params m)
+mark_lines_more params (m ∷ marks) (suc i) d l =
     let e : suc i + 1 ≡ suc (i + 1) = omega arith in
-    ap (λ n. mark_lines (take n (m ∷ marks))) e
-    ∙ ap (λ ps. mark_line m ++ ps) (mark_lines_more marks i d (omega arith)) ∙ sym (append_assoc (mark_line m) (mark_lines (take i marks)) (mark_line (get_or marks i d)))
+    ap (λ n. mark_lines params (take n (m ∷ marks))) e
+    ∙ ap (λ ps. mark_line params m ++ ps) (mark_lines_more params marks i d (omega arith)) ∙ sym (append_assoc (mark_line params m) (mark_lines params (take i marks)) (mark_line params (get_or marks i d)))

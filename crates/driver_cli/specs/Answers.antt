@@ -1,174 +1,190 @@
--- What the planner answers to its words: which status, for which cause, and with which text.
-use Rattle.std.specs.Prelude.{◌≡◌, ◌⊎◌, ℕ, List, Option, Some, true, false, Ok, Err}
-use Rattle.std.specs.Io.KnownBytes.{Keeps, Appends}
+-- What each command answers: which status, for which cause, and with which text.
+use Rattle.std.specs.Prelude.{◌≡◌, ◌⊎◌, ℕ, ◌*◌, ◌≤◌, ◌<◌, List, length, Some}
 use Rattle.duty_core.specs.declared.activity.Activity.{Activity}
-use Rattle.duty_core.specs.declared.mark.Mark.{Mark}
-use Rattle.duty_core.specs.Lawful.{IsLawful}
-use Rattle.rule_core.specs.Replay.{IsFirstUnlawful}
+use Rattle.tour_model.specs.declared.schedule.Schedule.{Schedule}
 use Rattle.tour_model.specs.declared.tour.Tour.{Tour}
-use Rattle.tour_model.specs.Schedule.{IsSolutionWith, IsShortest, IsInfeasible, log_start}
-use Rattle.tour_reader.specs.declared.fault.TourFault.{TourFault}
-use Rattle.duty_log.specs.declared.fault.LogFault.{LogFault}
-use Rattle.outside.specs.Outside.{Bytes, Files, Rose, AppendsStart}
+use Rattle.tour_model.specs.Schedule.{duration, IsSolutionWith, IsShortest, IsInfeasible}
+use Rattle.cert_text.specs.declared.cert.Cert.{Cert}
+use Rattle.cert_text.specs.declared.cert.CertKind.TheVariants as kind
+use Rattle.cert_text.specs.declared.limits.TheConstants.{CERT_LIMIT}
+use Rattle.cert_text.specs.Cert.{acts_of_runs}
+use Rattle.cert_checker.specs.declared.verdict.Reason.{Reason}
+use Rattle.cert_checker.specs.declared.verdict.Reason.TheVariants.{TooBig}
+use Rattle.cert_checker.specs.Checked.{IsCertificate, IsWhy}
+use Rattle.tour_plan.specs.Planned.{IsLawfulLog, IsSpent}
+use Rattle.outside.specs.Outside.{Bytes}
 use Rattle.driver_cli.specs.declared.answer.Status.{Status}
-use Rattle.driver_cli.specs.declared.answer.Status.TheVariants.{Done, Usage, Refused, Infeasible, LogUnlawful, Spent, ReadFault, WriteFault, Memory}
-use Rattle.driver_cli.specs.declared.command.Command.{Command}
-use Rattle.driver_cli.specs.declared.command.Command.TheVariants.{Plan, Audit}
-use Rattle.driver_cli.specs.Book.{is_planned}
-use Rattle.driver_cli.specs.Command.{IsSentence, IsNoSentence}
-use Rattle.driver_cli.specs.Given.{GivesTour, GivesLog}
-use Rattle.driver_cli.specs.Judged.{Seen, seen, IsUnfailed, log_minute}
-use Rattle.driver_cli.specs.Parts.{IsText}
-use Rattle.driver_cli.specs.Report.{report}
-use Rattle.driver_cli.specs.Texts.{usage_text, read_fault_text, tour_refused_text, not_yet_text, log_refused_text, unlawful_text, lawful_text, infeasible_text, spent_text}
-use Rattle.driver_cli.specs.Planned.{IsSpent}
+use Rattle.driver_cli.specs.declared.answer.Status.TheVariants.{Done, Usage, Infeasible, Spent, ReadFault, WriteFault, Rejected}
+use Rattle.driver_cli.specs.Given.{GivesCert}
+use Rattle.driver_cli.specs.Inputs.{AreGiven, AreLawful, LawfulAnswers}
+use Rattle.driver_cli.specs.Report.{IsReport}
+use Rattle.driver_cli.specs.Sides.{ReadSide, WriteSide, IsUnread, IsKept, HasPut, IsUnput}
+use Rattle.driver_cli.specs.Texts.{usage_text, read_fault_text, write_fault_text, lawful_text, infeasible_text, spent_text, accepted_shortest_text, accepted_infeasible_text, rejected_text}
 
--- What a call of the planner meets: its words, and what it saw of the desk.
-pub record Call : Type 0 where
-  pub words : List Bytes
-  pub desk : Seen
+-- ---- words that are no sentence
 
-abbrev pub call : List Bytes → Option Files → ℕ → ℕ → Option Bytes → Call
-call words files before now failed = record { words = words; desk = seen files before now failed }
+abbrev pub UsageAnswers : Status → Bytes → Type 0
+UsageAnswers Usage text = text ≡ usage_text
+UsageAnswers status text = ⊥
 
--- The words are this command and the names of a tour's file, which gives this tour with a book that is planned, and of a log's file.
-pub record IsTourRead (call : Call) (command : Command) (tour : Tour) (log_name : Bytes) : Type 0 where
-  pub tour_name : Bytes
-  pub asked : IsSentence call.words command tour_name log_name
-  pub given : GivesTour call.desk.files tour_name (Ok tour)
-  pub planned : is_planned tour.params ≡ true
+-- ---- `audit`
 
--- The log's file gives this log too, and no fetch failed.
-pub record IsRead (call : Call) (command : Command) (tour : Tour) (log : List Activity) : Type 0 where
-  pub log_name : Bytes
-  pub tour_read : IsTourRead call command tour log_name
-  pub given : GivesLog call.desk.files log_name tour (Ok log)
-  pub unfailed : IsUnfailed call.desk
-
--- Usage: the words are no sentence.
-pub record AnswersUsage (call : Call) (text : Bytes) : Type 0 where
-  pub sentence : IsNoSentence call.words
-  pub told : text ≡ usage_text
-
--- ReadFault, of the tour: the fetch of its file failed in this call.
-pub record TourUnread (call : Call) (text : Bytes) : Type 0 where
-  pub command : Command
-  pub tour_name : Bytes
-  pub log_name : Bytes
-  pub asked : IsSentence call.words command tour_name log_name
-  pub rose : Rose call.desk.faults_before call.desk.faults_now
-  pub failed : call.desk.failed_now ≡ Some tour_name
-  pub told : text ≡ read_fault_text tour_name
-
--- Refused, for the tour: its file gives a fault.
-pub record TourRefused (call : Call) (text : Bytes) : Type 0 where
-  pub command : Command
-  pub tour_name : Bytes
-  pub log_name : Bytes
-  pub asked : IsSentence call.words command tour_name log_name
-  pub fault : TourFault
-  pub given : GivesTour call.desk.files tour_name (Err fault)
-  pub unfailed : IsUnfailed call.desk
-  pub told : text ≡ tour_refused_text fault
-
--- Refused, for the book: the tour is good, and its book is not planned yet.
-pub record BookRefused (call : Call) (text : Bytes) : Type 0 where
-  pub command : Command
-  pub tour_name : Bytes
-  pub log_name : Bytes
-  pub asked : IsSentence call.words command tour_name log_name
-  pub tour : Tour
-  pub given : GivesTour call.desk.files tour_name (Ok tour)
-  pub unplanned : is_planned tour.params ≡ false
-  pub unfailed : IsUnfailed call.desk
-  pub told : text ≡ not_yet_text
-
--- ReadFault, of the log: the tour is good, and the fetch of the log's file failed in this call.
-pub record LogUnread (call : Call) (text : Bytes) : Type 0 where
-  pub command : Command
-  pub tour : Tour
-  pub log_name : Bytes
-  pub read : IsTourRead call command tour log_name
-  pub rose : Rose call.desk.faults_before call.desk.faults_now
-  pub failed : call.desk.failed_now ≡ Some log_name
-  pub told : text ≡ read_fault_text log_name
-
--- Refused, for the log: the tour is good, and the log's file gives a fault.
-pub record LogRefused (call : Call) (text : Bytes) : Type 0 where
-  pub command : Command
-  pub tour : Tour
-  pub log_name : Bytes
-  pub read : IsTourRead call command tour log_name
-  pub fault : LogFault
-  pub given : GivesLog call.desk.files log_name tour (Err fault)
-  pub unfailed : IsUnfailed call.desk
-  pub told : text ≡ log_refused_text fault
-
--- LogUnlawful: the log breaks a rule, and this unit is the first at which it does.
-pub record AnswersUnlawful (call : Call) (text : Bytes) : Type 0 where
-  pub command : Command
+-- Done: the log is lawful.
+pub record AuditDone (tour_name log_name : Bytes) (r : ReadSide) (text : Bytes) : Type 0 where
   pub tour : Tour
   pub log : List Activity
-  pub read : IsRead call command tour log
-  pub unit : ℕ
-  pub first : IsFirstUnlawful tour.params (log_start tour log) log unit
-  pub told : IsText (unlawful_text (log_minute tour log unit)) text
-
--- Done, of `audit`: the log is lawful.
-pub record AuditDone (call : Call) (text : Bytes) : Type 0 where
-  pub tour : Tour
-  pub log : List Activity
-  pub read : IsRead call Audit tour log
-  pub lawful : IsLawful tour.params (log_start tour log) log
+  pub lawful : AreLawful tour_name log_name r tour log
   pub told : text ≡ lawful_text
 
--- Done, of `plan`: the log is lawful, behind it the tour has this shortest schedule, which is lawful with these marks, and the text reports both.
-pub record PlanDone (call : Call) (text : Bytes) : Type 0 where
-  pub budget : ℕ
-  pub tour : Tour
-  pub log : List Activity
-  pub read : IsRead call (Plan budget) tour log
-  pub lawful : IsLawful tour.params (log_start tour log) log
-  pub schedule : List Activity
-  pub marks : List Mark
-  pub solves : IsSolutionWith tour log schedule marks
-  pub shortest : IsShortest tour log schedule
-  pub told : IsText (report tour schedule marks) text
+abbrev pub AuditAnswers : Bytes → Bytes → ReadSide → Status → Bytes → Type 0
+AuditAnswers tour_name log_name r Done text = AuditDone tour_name log_name r text
+AuditAnswers tour_name log_name r status text = LawfulAnswers tour_name log_name r status text
 
--- Infeasible, of `plan`: the log is lawful, and behind it no schedule serves the tour lawfully.
-pub record PlanInfeasible (call : Call) (text : Bytes) : Type 0 where
-  pub budget : ℕ
+-- ---- `check`
+
+-- The bytes are a valid certificate of kind shortest, and a shortest schedule takes as many steps as it says.
+pub record IsAcceptedShortest (tour : Tour) (log : List Activity) (bytes text : Bytes) : Type 0 where
+  pub cert : Cert
+  pub is : IsCertificate tour log bytes cert
+  pub kind : cert.kind ≡ kind.Shortest
+  pub steps : ℕ
+  pub target : cert.target ≡ Some steps
+  pub schedule : List Activity
+  pub shortest : IsShortest tour log schedule
+  pub takes : duration schedule ≡ steps
+  pub told : text ≡ accepted_shortest_text (steps * tour.grid)
+
+-- The bytes are a valid certificate of kind infeasible, and there is no solution.
+pub record IsAcceptedInfeasible (tour : Tour) (log : List Activity) (bytes text : Bytes) : Type 0 where
+  pub cert : Cert
+  pub is : IsCertificate tour log bytes cert
+  pub kind : cert.kind ≡ kind.Infeasible
+  pub infeasible : IsInfeasible tour log
+  pub told : text ≡ accepted_infeasible_text
+
+-- The bytes are more than a certificate may have.
+pub record IsTooLong (bytes text : Bytes) : Type 0 where
+  pub long : CERT_LIMIT < length bytes
+  pub told : text ≡ rejected_text 0 TooBig
+
+-- The bytes are no valid certificate, and the line and the reason tell why.
+pub record IsInvalid (tour : Tour) (log : List Activity) (bytes text : Bytes) : Type 0 where
+  pub none : (cert : Cert) → IsCertificate tour log bytes cert → ⊥
+  pub line : ℕ
+  pub reason : Reason
+  pub why : IsWhy tour log bytes line reason
+  pub told : text ≡ rejected_text line reason
+
+-- what the bytes of a certificate's file are answered, behind a lawful log
+abbrev pub BytesAnswers : Tour → List Activity → Bytes → Status → Bytes → Type 0
+BytesAnswers tour log bytes Done text = (length bytes ≤ CERT_LIMIT) × (IsAcceptedShortest tour log bytes text ⊎ IsAcceptedInfeasible tour log bytes text)
+BytesAnswers tour log bytes Rejected text = IsTooLong bytes text ⊎ IsInvalid tour log bytes text
+BytesAnswers tour log bytes status text = ⊥
+
+-- ReadFault: the log is lawful, and the fetch of the certificate's file failed.
+pub record CertUnread (tour_name log_name cert_name : Bytes) (r : ReadSide) (text : Bytes) : Type 0 where
   pub tour : Tour
   pub log : List Activity
-  pub read : IsRead call (Plan budget) tour log
-  pub lawful : IsLawful tour.params (log_start tour log) log
+  pub given : AreGiven tour_name log_name r tour log
+  pub lawful : IsLawfulLog tour log
+  pub unread : IsUnread r cert_name
+  pub told : text ≡ read_fault_text cert_name
+
+-- Done or Rejected: the log is lawful, and the first bytes of the certificate's file are answered.
+pub record CertChecked (tour_name log_name cert_name : Bytes) (r : ReadSide) (status : Status) (text : Bytes) : Type 0 where
+  pub tour : Tour
+  pub log : List Activity
+  pub lawful : AreLawful tour_name log_name r tour log
+  pub bytes : Bytes
+  pub given : GivesCert r.files cert_name bytes
+  pub answer : BytesAnswers tour log bytes status text
+
+abbrev pub CheckAnswers : Bytes → Bytes → Bytes → ReadSide → Status → Bytes → Type 0
+CheckAnswers tour_name log_name cert_name r Done text = CertChecked tour_name log_name cert_name r Done text
+CheckAnswers tour_name log_name cert_name r Rejected text = CertChecked tour_name log_name cert_name r Rejected text
+CheckAnswers tour_name log_name cert_name r ReadFault text = LawfulAnswers tour_name log_name r ReadFault text ⊎ CertUnread tour_name log_name cert_name r text
+CheckAnswers tour_name log_name cert_name r status text = LawfulAnswers tour_name log_name r status text
+
+-- ---- `plan`
+
+-- The bytes are a certificate that `check` accepts, of this kind.
+pub record IsAcceptable (tour : Tour) (log : List Activity) (bytes : Bytes) (cert : Cert) : Type 0 where
+  pub is : IsCertificate tour log bytes cert
+  pub short : length bytes ≤ CERT_LIMIT
+
+-- the schedule of a certificate, with its marks
+abbrev pub schedule_of : Cert → Schedule
+schedule_of cert = record { steps = acts_of_runs cert.schedule; marks = cert.marks }
+
+-- The bytes are such a certificate of kind shortest; behind the log its schedule is lawful with its marks and a shortest one; and the text reports it.
+pub record IsShortestProof (tour : Tour) (log : List Activity) (bytes text : Bytes) : Type 0 where
+  pub cert : Cert
+  pub acceptable : IsAcceptable tour log bytes cert
+  pub kind : cert.kind ≡ kind.Shortest
+  pub solves : IsSolutionWith tour log (acts_of_runs cert.schedule) cert.marks
+  pub shortest : IsShortest tour log (acts_of_runs cert.schedule)
+  pub told : IsReport tour log (schedule_of cert) text
+
+-- The bytes are such a certificate of kind infeasible, and behind the log no schedule serves the tour lawfully.
+pub record IsInfeasibleProof (tour : Tour) (log : List Activity) (bytes text : Bytes) : Type 0 where
+  pub cert : Cert
+  pub acceptable : IsAcceptable tour log bytes cert
+  pub kind : cert.kind ≡ kind.Infeasible
   pub infeasible : IsInfeasible tour log
   pub told : text ≡ infeasible_text
 
--- Spent, of `plan`: the log is lawful, and behind it the search kept as many labels as the budget allows.
-pub record PlanSpent (call : Call) (text : Bytes) : Type 0 where
-  pub budget : ℕ
+-- Done: the log is lawful, the certificate's file holds a proof of a shortest schedule, and the text reports that schedule.
+pub record PlanDone (tour_name log_name cert_name : Bytes) (r : ReadSide) (w : WriteSide) (text : Bytes) : Type 0 where
   pub tour : Tour
   pub log : List Activity
-  pub read : IsRead call (Plan budget) tour log
-  pub lawful : IsLawful tour.params (log_start tour log) log
+  pub lawful : AreLawful tour_name log_name r tour log
+  pub bytes : Bytes
+  pub proof : IsShortestProof tour log bytes text
+  pub put : HasPut w cert_name bytes
+
+-- Infeasible: the log is lawful, behind it there is no solution, and the certificate's file holds a proof of that.
+pub record PlanInfeasible (tour_name log_name cert_name : Bytes) (r : ReadSide) (w : WriteSide) (text : Bytes) : Type 0 where
+  pub tour : Tour
+  pub log : List Activity
+  pub lawful : AreLawful tour_name log_name r tour log
+  pub bytes : Bytes
+  pub proof : IsInfeasibleProof tour log bytes text
+  pub put : HasPut w cert_name bytes
+
+-- Spent: the log is lawful, and behind it the search kept as many labels as the budget allows.
+pub record PlanSpent (tour_name log_name : Bytes) (budget : ℕ) (r : ReadSide) (text : Bytes) : Type 0 where
+  pub tour : Tour
+  pub log : List Activity
+  pub lawful : AreLawful tour_name log_name r tour log
   pub spent : IsSpent tour log budget
   pub told : text ≡ spent_text budget
 
--- The statuses that send a text, each with its causes and that text.
-abbrev pub Answers : Call → Status → Bytes → Type 0
-Answers call Done text = PlanDone call text ⊎ AuditDone call text
-Answers call Usage text = AnswersUsage call text
-Answers call Refused text = TourRefused call text ⊎ (BookRefused call text ⊎ LogRefused call text)
-Answers call Infeasible text = PlanInfeasible call text
-Answers call LogUnlawful text = AnswersUnlawful call text
-Answers call Spent text = PlanSpent call text
-Answers call ReadFault text = TourUnread call text ⊎ LogUnread call text
-Answers call WriteFault text = ⊥
-Answers call Memory text = ⊥
+-- WriteFault: the log is lawful, and the put of the certificate failed.
+pub record PlanUnput (tour_name log_name cert_name : Bytes) (r : ReadSide) (w : WriteSide) (text : Bytes) : Type 0 where
+  pub tour : Tour
+  pub log : List Activity
+  pub lawful : AreLawful tour_name log_name r tour log
+  pub unput : IsUnput w cert_name
+  pub told : text ≡ write_fault_text cert_name
 
--- How a call ends, by the sink's bytes and its count of faults: an answer that has its cause is sent whole; or its sending failed, and some first part was appended; or memory was wanting, and nothing was.
-abbrev pub Ends : (Status → Bytes → Type 0) → Status → (old new : Option Bytes) → (before now : ℕ) → Type 0
-Ends answers Memory old new before now = Keeps old new × (now ≡ before)
-Ends answers WriteFault old new before now = Rose before now × ((status : Status) × (text : Bytes) × answers status text × AppendsStart old new text)
-Ends answers status old new before now = (text : Bytes) × answers status text × Appends old new text × (now ≡ before)
+-- An answer but the first three leaves the desk's files as they were.
+abbrev pub PlanAnswers : Bytes → Bytes → Bytes → ℕ → ReadSide → WriteSide → Status → Bytes → Type 0
+PlanAnswers tour_name log_name cert_name budget r w Done text = PlanDone tour_name log_name cert_name r w text
+PlanAnswers tour_name log_name cert_name budget r w Infeasible text = PlanInfeasible tour_name log_name cert_name r w text
+PlanAnswers tour_name log_name cert_name budget r w WriteFault text = PlanUnput tour_name log_name cert_name r w text
+PlanAnswers tour_name log_name cert_name budget r w Spent text = IsKept w × PlanSpent tour_name log_name budget r text
+PlanAnswers tour_name log_name cert_name budget r w status text = IsKept w × LawfulAnswers tour_name log_name r status text
+
+-- The certificate's file holds a certificate that `check` accepts.
+pub record CertIsPut (tour_name log_name cert_name : Bytes) (r : ReadSide) (w : WriteSide) : Type 0 where
+  pub tour : Tour
+  pub log : List Activity
+  pub lawful : AreLawful tour_name log_name r tour log
+  pub bytes : Bytes
+  pub cert : Cert
+  pub acceptable : IsAcceptable tour log bytes cert
+  pub put : HasPut w cert_name bytes
+
+-- What `plan` leaves where memory is wanting: all files as they were, or such a certificate put, or its put failed.
+abbrev pub PlanLeaves : Bytes → Bytes → Bytes → ReadSide → WriteSide → Type 0
+PlanLeaves tour_name log_name cert_name r w = IsKept w ⊎ (CertIsPut tour_name log_name cert_name r w ⊎ IsUnput w cert_name)

@@ -3,7 +3,6 @@ use Rattle.std.specs.Prelude.{ℕ, List, [], ◌++◌, codes, map, Option, None,
 use Rattle.std.specs.Fmt.{decimal}
 use Rattle.tour_reader.specs.declared.fault.TourFault.{TourFault}
 use Rattle.tour_reader.specs.declared.fault.TourFault.TheVariants as tour
-use Rattle.tour_reader.specs.declared.field.Field.{Field}
 use Rattle.tour_reader.specs.Fields.{key}
 use Rattle.duty_log.specs.declared.fault.LogFault.{LogFault}
 use Rattle.duty_log.specs.declared.fault.LogFault.TheVariants as log

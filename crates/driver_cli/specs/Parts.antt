@@ -1,5 +1,6 @@
 -- Texts with times in them.
-use Rattle.std.specs.Prelude.{◌≡◌, ℕ, List, [], ◌∷◌, ◌++◌}
+use Rattle.std.specs.Prelude.{◌≡◌, ℕ, ◌+◌, ◌/◌, ◌%◌, List, [], ◌∷◌, ◌++◌, codes}
+use Rattle.std.specs.Fmt.{decimal}
 use Rattle.civil_minutes.specs.Time.{IsTimeText}
 
 -- a part of a text: bytes as they are, or the time of a civil minute
@@ -16,3 +17,11 @@ Puts (Time at ∷ parts) before now = (time : List ℕ) × IsTimeText time at ×
 -- The text is these parts.
 abbrev pub IsText : List Part → List ℕ → Type 0
 IsText parts text = Puts parts [] text
+
+-- a number below 100 in two digits
+abbrev pub two_digits : ℕ → List ℕ
+two_digits n = (48 + n / 10) ∷ (48 + n % 10) ∷ []
+
+-- minutes as hours, a colon, and two digits of minutes
+abbrev pub clock_text : ℕ → List ℕ
+clock_text minutes = decimal (minutes / 60) ++ codes ":" ++ two_digits (minutes % 60)

@@ -1,20 +1,21 @@
 -- The report of a schedule: its duration and times, a line for each of its runs, and one for each of its marks.
-use Rattle.std.specs.Prelude.{ℕ, ◌+◌, ◌<◌, ◌*◌, ◌/◌, ◌%◌, Bool, true, false, List, [], ◌∷◌, ◌++◌, length, codes, Option, None, Some, slice_get, unwrap_or, ◌==◌, ◌&&◌, if◌then◌else◌}
-use Rattle.std.specs.Fmt.{decimal}
-use Rattle.civil_minutes.specs.declared.century.TheConstants.{MINUTES_OF_CENTURY}
+use Rattle.std.specs.Prelude.{ℕ, ◌+◌, ◌*◌, nat_abs, Bool, true, false, List, [], ◌∷◌, ◌++◌, length, codes, Option, None, Some, slice_get, unwrap_or, ◌==◌, ◌&&◌, if◌then◌else◌}
 use Rattle.duty_core.specs.declared.activity.Activity.{Activity}
 use Rattle.duty_core.specs.declared.activity.Activity.TheVariants.{Drive, Serve, Wait, Off, Berth}
 use Rattle.duty_core.specs.declared.mark.Mark.{Mark}
-use Rattle.duty_core.specs.declared.mark.Mark.TheVariants.{SplitRest, DeferDay}
+use Rattle.duty_core.specs.declared.params.Params.{Params}
+use Rattle.duty_core.specs.Marks.{mark_minute}
 use Rattle.tour_model.specs.declared.piece.Piece.{Piece}
 use Rattle.tour_model.specs.declared.piece.Piece.TheVariants as piece
+use Rattle.tour_model.specs.declared.schedule.Schedule.{Schedule}
 use Rattle.tour_model.specs.declared.stop.Stop.{Stop}
 use Rattle.tour_model.specs.declared.tour.Tour.{Tour}
 use Rattle.tour_model.specs.Schedule.{depart_from, duration}
 use Rattle.tour_model.specs.Way.{progresses, done}
 use Rattle.tour_model.specs.Word.{next_piece}
 use Rattle.driver_cli.specs.declared.report.Doing.{Doing}
-use Rattle.driver_cli.specs.Parts.{Part, Said, Time}
+use Rattle.cert_text.specs.Spelling.{mark_word}
+use Rattle.driver_cli.specs.Parts.{Part, Said, Time, IsText, clock_text}
 
 -- ---- what each step does
 
@@ -108,14 +109,6 @@ abbrev pub run_lines : Tour → ℕ → List Run → List Part
 run_lines tour from [] = []
 run_lines tour from (run ∷ runs) = run_line tour from (from + run.count) run.doing ++ run_lines tour (from + run.count) runs
 
--- a number below 100 in two digits
-abbrev pub two_digits : ℕ → List ℕ
-two_digits n = (48 + n / 10) ∷ (48 + n % 10) ∷ []
-
--- minutes as hours, a colon, and two digits of minutes
-abbrev pub clock_text : ℕ → List ℕ
-clock_text minutes = decimal (minutes / 60) ++ codes ":" ++ two_digits (minutes % 60)
-
 -- the step of the departure
 abbrev pub departure : List Activity → ℕ
 departure schedule = unwrap_or (depart_from 0 schedule) 0
@@ -126,21 +119,19 @@ head_line tour schedule =
     Said (codes "shortest ") ∷ Said (clock_text (duration schedule * tour.grid)) ∷ Said (codes " from ") ∷ Time (minute_of tour (departure schedule))
     ∷ Said (codes " to ") ∷ Time (minute_of tour (length schedule)) ∷ Said (codes "\n") ∷ []
 
--- `mark split TIME` of a rest that is split, by the first minute of its run
-abbrev pub mark_line : Mark → List Part
-mark_line (SplitRest at) = Said (codes "mark split ") ∷ Time at ∷ Said (codes "\n") ∷ []
-mark_line (DeferDay day) = []
+-- `mark split TIME` of a rest that is split, or `mark defer TIME` of a day that defers rest, each by its first minute
+abbrev pub mark_line : Params → Mark → List Part
+mark_line params mark = Said (codes "mark ") ∷ Said (mark_word mark) ∷ Time (nat_abs (mark_minute params mark)) ∷ Said (codes "\n") ∷ []
 
 -- a line for each mark
-abbrev pub mark_lines : List Mark → List Part
-mark_lines [] = []
-mark_lines (mark ∷ marks) = mark_line mark ++ mark_lines marks
+abbrev pub mark_lines : Params → List Mark → List Part
+mark_lines params [] = []
+mark_lines params (mark ∷ marks) = mark_line params mark ++ mark_lines params marks
 
--- A mark's time can be written.
-abbrev pub HasMarkTime : Mark → Type 0
-HasMarkTime (SplitRest at) = at < MINUTES_OF_CENTURY
-HasMarkTime (DeferDay day) = Unit {0}
-
--- the report
+-- the report of steps and marks
 abbrev pub report : Tour → List Activity → List Mark → List Part
-report tour schedule marks = (head_line tour schedule ++ run_lines tour 0 (runs_of (doings tour 0 schedule))) ++ mark_lines marks
+report tour schedule marks = (head_line tour schedule ++ run_lines tour 0 (runs_of (doings tour 0 schedule))) ++ mark_lines tour.params marks
+
+-- The text is the report of a schedule of the tour behind the log.
+abbrev pub IsReport : Tour → List Activity → Schedule → List ℕ → Type 0
+IsReport tour log schedule text = IsText (report tour schedule.steps schedule.marks) text

@@ -1,30 +1,39 @@
 //! The sentences of the planner.
-ghost use Rattle.std.specs.Prelude.{◌≡◌, ℕ, [], ◌∷◌, codes, MatchOption};
+ghost use Rattle.std.specs.Prelude.{◌≡◌, ℕ, [], ◌∷◌, codes, IfOk, MatchOption};
 ghost use Rattle.std.specs.Fmt.{decimal};
-ghost use Rattle.driver_cli.specs.Command.{IsBudget, IsSentence, IsNoSentence};
+ghost use Rattle.tour_plan.specs.Planned.{IsBudget};
+ghost use Rattle.driver_cli.specs.Command.{IsSentence, IsNoSentence};
 
+use duty_core::NoMemory;
 use label_search::MOST_BUDGET;
 use outside::Word;
+use std::alloc::Global;
 
 /// The most labels that a search may keep, where the words name no other number.
 pub const BUDGET: u32 = 200_000;
 
-/// What the planner is to do with a tour and a log.
-#[derive(Clone, Copy, Debug, PartialEq, Eq)]
+/// What the planner is to do, and the names of the files that it is for.
+#[derive(Drop)]
 pub enum Command {
     /// `plan`: to find a shortest schedule of the tour behind the log, with a search that may keep so
-    /// many labels.
-    Plan { budget: u32 },
+    /// many labels, and to put a certificate of it.
+    Plan {
+        tour: Word,
+        log: Word,
+        cert: Word,
+        budget: u32,
+    },
+    /// `check`: to say whether the certificate is valid for the tour behind the log.
+    Check {
+        tour: Word,
+        log: Word,
+        cert: Word,
+    },
     /// `audit`: to say whether the log is lawful.
-    Audit,
-}
-
-/// A command, and the names of the two files that it is for.
-#[derive(Clone, Copy)]
-pub struct Request<'a> {
-    pub command: Command,
-    pub tour: &'a Word,
-    pub log: &'a Word,
+    Audit {
+        tour: Word,
+        log: Word,
+    },
 }
 
 /// The budget of labels that a text gives: a number from 1 to 500,000 in decimal, with no sign and
@@ -50,50 +59,87 @@ fn budget_of(text: &str) -> Option<u32>
     }
 }
 
-/// What three words ask for.
-fn short_request<'a>(command: &Word, tour: &'a Word, log: &'a Word) -> Option<Request<'a>>
-    ensures { MatchOption result (IsNoSentence (command.now ∷ tour.now ∷ log.now ∷ []))
-        (λ request. IsSentence (command.now ∷ tour.now ∷ log.now ∷ []) request.command request.tour.now request.log.now) }
+/// The command of three words.
+fn audit_of(
+    alloc: Global,
+    verb: &Word,
+    tour: &Word,
+    log: &Word,
+) -> Result<Option<Command>, NoMemory>
+    ensures { IfOk result (λ read. MatchOption read (IsNoSentence (verb.now ∷ tour.now ∷ log.now ∷ [])) (IsSentence (verb.now ∷ tour.now ∷ log.now ∷ []))) }
 {
-    let command = match command.as_str() {
-        "plan" => Command::Plan { budget: BUDGET },
-        "audit" => Command::Audit,
-        _ => return None,
-    };
-    Some(Request { command, tour, log })
+    if verb.as_str() != "audit" {
+        return Ok(None);
+    }
+    Ok(Some(Command::Audit {
+        tour: tour.copy(alloc)?,
+        log: log.copy(alloc)?,
+    }))
 }
 
-/// What five words ask for, the fourth of which is an option and the fifth its value.
-fn long_request<'a>(
-    command: &Word,
-    tour: &'a Word,
-    log: &'a Word,
-    option: &Word,
-    value: &Word,
-) -> Option<Request<'a>>
-    ensures { MatchOption result (IsNoSentence (command.now ∷ tour.now ∷ log.now ∷ option.now ∷ value.now ∷ []))
-        (λ request. IsSentence (command.now ∷ tour.now ∷ log.now ∷ option.now ∷ value.now ∷ []) request.command request.tour.now request.log.now) }
+/// The command of four words.
+fn plan_or_check_of(
+    alloc: Global,
+    verb: &Word,
+    tour: &Word,
+    log: &Word,
+    cert: &Word,
+) -> Result<Option<Command>, NoMemory>
+    ensures { IfOk result (λ read. MatchOption read (IsNoSentence (verb.now ∷ tour.now ∷ log.now ∷ cert.now ∷ [])) (IsSentence (verb.now ∷ tour.now ∷ log.now ∷ cert.now ∷ []))) }
 {
-    if command.as_str() != "plan" || option.as_str() != "--budget" {
-        return None;
+    let is_plan = verb.as_str() == "plan";
+    if !is_plan && verb.as_str() != "check" {
+        return Ok(None);
     }
-    match budget_of(value.as_str()) {
-        Some(budget) => Some(Request {
-            command: Command::Plan { budget },
+    let (tour, log, cert) = (tour.copy(alloc)?, log.copy(alloc)?, cert.copy(alloc)?);
+    if is_plan {
+        return Ok(Some(Command::Plan {
             tour,
             log,
-        }),
-        None => None,
+            cert,
+            budget: BUDGET,
+        }));
     }
+    Ok(Some(Command::Check { tour, log, cert }))
 }
 
-/// What the words ask for: a command, the name of the tour's file and that of the log's.
-pub fn request_of(words: &[Word]) -> Option<Request<'_>>
-    ensures { MatchOption result (IsNoSentence words.now) (λ request. IsSentence words.now request.command request.tour.now request.log.now) }
+/// The command of six words, the last two of which are an option and its value.
+fn budgeted_plan_of(
+    alloc: Global,
+    verb: &Word,
+    tour: &Word,
+    log: &Word,
+    cert: &Word,
+    option: &Word,
+    value: &Word,
+) -> Result<Option<Command>, NoMemory>
+    ensures { IfOk result (λ read. MatchOption read (IsNoSentence (verb.now ∷ tour.now ∷ log.now ∷ cert.now ∷ option.now ∷ value.now ∷ []))
+        (IsSentence (verb.now ∷ tour.now ∷ log.now ∷ cert.now ∷ option.now ∷ value.now ∷ []))) }
+{
+    if verb.as_str() != "plan" || option.as_str() != "--budget" {
+        return Ok(None);
+    }
+    let Some(budget) = budget_of(value.as_str()) else {
+        return Ok(None);
+    };
+    Ok(Some(Command::Plan {
+        tour: tour.copy(alloc)?,
+        log: log.copy(alloc)?,
+        cert: cert.copy(alloc)?,
+        budget,
+    }))
+}
+
+/// What the words ask for, `None` where they are no sentence.
+pub fn command_of(alloc: Global, words: &[Word]) -> Result<Option<Command>, NoMemory>
+    ensures { IfOk result (λ read. MatchOption read (IsNoSentence words.now) (IsSentence words.now)) }
 {
     match words {
-        [command, tour, log] => short_request(command, tour, log),
-        [command, tour, log, option, value] => long_request(command, tour, log, option, value),
-        _ => None,
+        [verb, tour, log] => audit_of(alloc, verb, tour, log),
+        [verb, tour, log, cert] => plan_or_check_of(alloc, verb, tour, log, cert),
+        [verb, tour, log, cert, option, value] => {
+            budgeted_plan_of(alloc, verb, tour, log, cert, option, value)
+        }
+        _ => Ok(None),
     }
 }

@@ -15,7 +15,7 @@ fn push_stop(text: &mut Text, alloc: Global, stop: Option<u32>) -> Result<(), No
 {
     if let Some(number) = stop {
         text.push_str(" stop ")?;
-        text.push_number(alloc, number)?;
+        text.push_number(alloc, u64::from(number))?;
     }
     Ok(())
 }
@@ -25,7 +25,7 @@ fn push_numbered(text: &mut Text, alloc: Global, name: &str, number: u32) -> Res
     ensures { OnOk result (text.new ≡ text.old ++ (name.now ++ decimal number)) }
 {
     text.push_str(name)?;
-    text.push_number(alloc, number)
+    text.push_number(alloc, u64::from(number))
 }
 
 /// Puts what is wrong with a tour behind the text.

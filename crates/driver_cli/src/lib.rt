@@ -2,9 +2,11 @@
 #![tactic(auto)]
 
 mod answer;
+mod audit;
+mod check;
 mod command;
 mod fault_text;
-mod judge;
+mod fetch;
 mod plan;
 mod report;
 #[cfg(test)]

@@ -1,79 +1,100 @@
-//! Planning of a tour behind a log.
+//! A tour planned behind a log, and the certificate of it put.
 ghost use Rattle.std.specs.Prelude.{◌≡◌, ◌*◌, ◌≤◌, length, IfOk};
 ghost use Rattle.duty_core.specs.Params.{unit_minutes};
-ghost use Rattle.rule_core.specs.Replay.{AreRootsOf};
 ghost use Rattle.duty_core.specs.declared.limits.TheConstants.{LONGEST_LOG};
-ghost use Rattle.tour_model.specs.Schedule.{log_start};
 ghost use Rattle.tour_model.specs.Tour.{IsTour};
-ghost use Rattle.cert_text.specs.Planning.{problem_of, IsLogState};
-ghost use Rattle.driver_cli.specs.Command.{IsBudget};
-ghost use Rattle.driver_cli.specs.Planned.{IsPlannedBy, IsPlanned};
+ghost use Rattle.tour_plan.specs.Planned.{IsBudget};
+ghost use Rattle.driver_cli.specs.Sides.{read_side, write_side};
+ghost use Rattle.driver_cli.specs.Answers.{PlanAnswers, PlanLeaves};
+ghost use Rattle.driver_cli.specs.Steps.{Concludes, IsProposed, IsCertPut};
+ghost use Rattle.driver_cli.specs.Texts.{write_fault_text};
 
+use crate::answer::{Answer, Halt, Status};
+use crate::audit::unlawful;
+use crate::fetch::{Inputs, fetch_inputs};
+use crate::report::report;
+use crate::texts::{spent_text, write_fault_text};
 use duty_core::NoMemory;
-use label_search::{Searched, search};
-use rule_core::{Roots, RuleBook};
-use schedule_rebuild::rebuild;
+use outside::{Desk, DeskFault, Word};
 use std::alloc::Global;
-use timeline::Timeline;
-use tour_model::{Schedule, Tour};
-use us_rules::{UsBook, UsState};
+use tour_plan::{Planned, plan_tour};
 
-/// What planning a tour gives.
+/// What planning answers where its certificate can be put.
 #[derive(Drop)]
-pub enum Planned {
-    /// A shortest schedule, with its marks.
-    Shortest(Schedule),
-    /// No schedule serves the tour lawfully behind the log.
-    Infeasible,
-    /// The search kept as many labels as it may.
-    Spent,
+struct Proposal {
+    answer: Answer,
+    cert: Vec<u8>,
 }
 
-/// Plans the tour by a rule book, behind the log that left these roots.
-fn plan_by<B: RuleBook>(
-    alloc: Global,
-    book: &B,
-    tour: &Tour,
-    log: &Timeline,
-    roots: &Roots<B::State>,
-    budget: u32,
-) -> Result<Planned, NoMemory>
-    requires tour { IsTour tour.now }
-    requires params { B.params_of book.now ≡ tour.now.params }
-    requires short { unit_minutes tour.now.params * length log.now ≤ LONGEST_LOG }
-    requires roots { AreRootsOf (unit_minutes tour.now.params) (B.nexts_of book.now) (B.covering book.now)
-        (B.root_of book.now (log_start tour.now log.now)) (log_start tour.now log.now) log.now roots.now }
+/// The answer to a tour behind its log, with the bytes of the certificate that proves it. Answered at
+/// once, and as `LogUnlawful`, where the log breaks a rule, and as `Spent` where the search may keep no
+/// more labels.
+fn propose(alloc: Global, inputs: &Inputs, budget: u32) -> Result<Proposal, Halt>
+    requires tour { IsTour inputs.now.tour }
+    requires short { unit_minutes inputs.now.tour.params * length inputs.now.log ≤ LONGEST_LOG }
     requires budget { IsBudget budget }
-    ensures planned { IfOk result (IsPlannedBy tour.now log.now (problem_of tour.now (B.advances_of book.now) (B.covering book.now) (B.idles_of book.now))
-        (IsLogState tour.now log.now (B.root_of book.now (log_start tour.now log.now)) (B.nexts_of book.now)) budget) }
+    ensures { IsProposed inputs.now.tour inputs.now.log budget result }
 {
-    let _ = log;
-    match search(alloc, book, tour, roots.items(), budget)? {
-        Searched::Found { layers, place } => {
-            Ok(Planned::Shortest(rebuild(alloc, &layers, roots.items(), place)?))
+    match plan_tour(alloc, &inputs.tour, &inputs.log, budget)? {
+        Planned::Shortest { schedule, cert } => {
+            let answer = Answer {
+                status: Status::Done,
+                text: report(alloc, &inputs.tour, &inputs.log, &schedule)?,
+            };
+            Ok(Proposal { answer, cert })
         }
-        Searched::Never { layers: _ } => Ok(Planned::Infeasible),
-        Searched::Spent { layers: _ } => Ok(Planned::Spent),
+        Planned::Infeasible { cert } => {
+            let answer = Answer::of(alloc, Status::Infeasible, "infeasible\n")?;
+            Ok(Proposal { answer, cert })
+        }
+        Planned::Spent => Err(Halt::Answered(Answer {
+            status: Status::Spent,
+            text: spent_text(alloc, budget)?,
+        })),
+        Planned::Unlawful { unit } => Err(Halt::Answered(unlawful(alloc, inputs, unit)?)),
     }
 }
 
-/// A shortest schedule of the tour behind the log, under the rules of the United States, or that it
-/// has none, or that the search's budget is spent. The roots are the states that the log leads to.
-pub fn plan_tour(
-    alloc: Global,
-    book: &UsBook,
-    tour: &Tour,
-    log: &Timeline,
-    roots: &Roots<UsState>,
-    budget: u32,
-) -> Result<Planned, NoMemory>
-    requires tour { IsTour tour.now }
-    requires book { ⟦<UsBook as RuleBook>⟧.params_of book.now ≡ tour.now.params }
-    requires short { unit_minutes tour.now.params * length log.now ≤ LONGEST_LOG }
-    requires roots { AreRootsOf (unit_minutes tour.now.params) (⟦<UsBook as RuleBook>⟧.nexts_of book.now) (⟦<UsBook as RuleBook>⟧.covering book.now)
-        (⟦<UsBook as RuleBook>⟧.root_of book.now (log_start tour.now log.now)) (log_start tour.now log.now) log.now roots.now }
-    requires budget { IsBudget budget }
-    ensures { IfOk result (IsPlanned tour.now log.now budget) }
+/// The answer where the file of that name could not be put.
+fn write_fault(alloc: Global, name: &Word) -> Result<Answer, NoMemory>
+    ensures { IfOk result (λ answer. (answer.status ≡ Status.WriteFault) × (answer.text ≡ write_fault_text name.now)) }
 {
-    plan_by(alloc, book, tour, log, roots, budget)
+    Ok(Answer {
+        status: Status::WriteFault,
+        text: write_fault_text(alloc, name)?,
+    })
+}
+
+/// Makes the file of that name hold the certificate. Answered as `WriteFault` where it cannot be put.
+fn put_cert<D: Desk>(alloc: Global, name: &Word, cert: &[u8], desk: &mut D) -> Result<(), Halt>
+    ensures read_faults { D.read_faults desk.new ≡ D.read_faults desk.old }
+    ensures read_failed { D.read_failed desk.new ≡ D.read_failed desk.old }
+    ensures put { IsCertPut name.now cert.now (write_side (D.files desk.old) (D.files desk.new) (D.write_faults desk.old) (D.write_faults desk.new) (D.write_failed desk.old) (D.write_failed desk.new)) result }
+{
+    match desk.put(name, cert) {
+        Ok(()) => Ok(()),
+        Err(DeskFault::Failed) => Err(Halt::Answered(write_fault(alloc, name)?)),
+        Err(DeskFault::Memory) => Err(Halt::Memory),
+    }
+}
+
+/// Plans a tour behind a log, and puts the certificate of what is answered: a shortest schedule, or
+/// that there is none. It does so behind the refusals of the two files and of a log that breaks a rule.
+pub fn plan<D: Desk>(
+    alloc: Global,
+    tour: &Word,
+    log: &Word,
+    cert: &Word,
+    budget: u32,
+    desk: &mut D,
+) -> Result<Answer, Halt>
+    requires { IsBudget budget }
+    ensures answer { let read = read_side (D.files desk.old) (D.read_faults desk.old) (D.read_faults desk.new) (D.read_failed desk.new) in
+        let write = write_side (D.files desk.old) (D.files desk.new) (D.write_faults desk.old) (D.write_faults desk.new) (D.write_failed desk.old) (D.write_failed desk.new) in
+        Concludes result (PlanAnswers tour.now log.now cert.now budget read write) (PlanLeaves tour.now log.now cert.now read write) }
+{
+    let inputs = fetch_inputs(alloc, tour, log, desk)?;
+    let proposal = propose(alloc, &inputs, budget)?;
+    put_cert(alloc, cert, &proposal.cert, desk)?;
+    Ok(proposal.answer)
 }

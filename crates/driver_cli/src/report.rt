@@ -1,18 +1,25 @@
 //! The report of a schedule.
-ghost use Rattle.std.specs.Prelude.{◌≡◌, ◌<◌, ◌≤◌, ◌*◌, ◌/◌, ◌++◌, ◌↔◌, ℕ, [], length, IsTrue, unwrap_or, position, slice_get, All, IfOk, OnOk};
+ghost use Rattle.std.specs.Prelude.{◌≡◌, ◌<◌, ◌≤◌, ◌*◌, ◌/◌, ◌++◌, ◌↔◌, [], length, nat_abs, IsTrue, unwrap_or, position, slice_get, All, IfOk, OnOk};
 ghost use Rattle.civil_minutes.specs.declared.century.TheConstants.{MINUTES_OF_CENTURY};
+ghost use Rattle.duty_core.specs.Day.{day_start};
+ghost use Rattle.duty_core.specs.Marks.{mark_minute};
+ghost use Rattle.duty_core.specs.Params.{AreGoodParams};
 ghost use Rattle.tour_model.specs.declared.limits.TheConstants.{LONGEST_TOUR};
-ghost use Rattle.tour_model.specs.Schedule.{depart_from, duration};
+ghost use Rattle.tour_model.specs.Schedule.{depart_from, duration, IsSolutionWith};
 ghost use Rattle.tour_model.specs.Tour.{IsTour};
 ghost use Rattle.tour_model.specs.Way.{progresses, done};
 ghost use Rattle.tour_model.specs.Word.{next_piece};
+ghost use Rattle.cert_text.specs.Form.{IsMarkForm};
+ghost use Rattle.cert_text.specs.Spelling.{mark_word};
 ghost use Rattle.driver_cli.specs.Parts.{Puts, IsText};
-ghost use Rattle.driver_cli.specs.Report.{stop_of, doing_at, doings, runs_of, act_word, doing_text, name_of, stop_at, minute_of, run_line, run_lines, clock_text, departure, head_line, HasMarkTime, mark_line, mark_lines, report};
+ghost use Rattle.driver_cli.specs.Report.{stop_of, doing_at, doings, runs_of, act_word, doing_text, name_of, stop_at, minute_of, run_line, run_lines, departure, head_line, mark_line, mark_lines, report, IsReport};
 
 use crate::text::Text;
-use duty_core::{Activity, Mark, Minute, NoMemory};
+use civil_minutes::day_first;
+use duty_core::{Activity, Mark, Minute, NoMemory, Params};
 use std::alloc::Global;
-use tour_model::{Piece, Tour};
+use timeline::Timeline;
+use tour_model::{Piece, Schedule, Tour, serves_by_steps};
 
 /// What a step does: its activity, and the number of the stop that it drives to or serves.
 #[derive(Clone, Copy, Debug, PartialEq, Eq)]
@@ -21,8 +28,25 @@ pub struct Doing {
     pub stop: Option<u32>,
 }
 
-/// The report of a schedule: its duration, departure and end, a line for each of its runs, with
-/// their times, and a line for each of its marks.
+/// The report of a solution: its duration, departure and end, a line for each of its runs, with their
+/// times, and a line for each of its marks. The minute of each mark is one of the years 2000 to 2099.
+pub fn report(
+    alloc: Global,
+    tour: &Tour,
+    log: &Timeline,
+    schedule: &Schedule,
+) -> Result<Text, NoMemory>
+    requires tour { IsTour tour.now }
+    requires solution { IsSolutionWith tour.now log.now schedule.now.steps schedule.now.marks }
+    requires marks { All (IsMarkForm tour.now.params 0) schedule.now.marks }
+    ensures { IfOk result (IsReport tour.now log.now schedule.now) }
+{
+    serves_by_steps(tour);
+    let _ = log;
+    report_text(alloc, tour, schedule.steps.items(), schedule.marks.items())
+}
+
+/// The report of these steps and marks.
 pub fn report_text(
     alloc: Global,
     tour: &Tour,
@@ -31,46 +55,70 @@ pub fn report_text(
 ) -> Result<Text, NoMemory>
     requires tour { IsTour tour.now }
     requires short { length schedule.now * tour.now.grid ≤ LONGEST_TOUR }
-    requires marks { All HasMarkTime marks.now }
+    requires marks { All (IsMarkForm tour.now.params 0) marks.now }
     ensures { IfOk result (IsText (report tour.now schedule.now marks.now)) }
 {
     let mut text = head_text(alloc, tour, schedule)?;
     push_runs(&mut text, tour, schedule)?;
-    push_marks(&mut text, marks)?;
+    push_marks(&mut text, tour.params, marks)?;
     Ok(text)
 }
 
 /// Puts a line for each mark behind the text.
-fn push_marks(text: &mut Text, marks: &[Mark]) -> Result<(), NoMemory>
-    requires { All HasMarkTime marks.now }
-    ensures { OnOk result (Puts (mark_lines marks.now) text.old text.new) }
+fn push_marks(text: &mut Text, params: Params, marks: &[Mark]) -> Result<(), NoMemory>
+    requires good { AreGoodParams params }
+    requires marks { All (IsMarkForm params 0) marks.now }
+    ensures { OnOk result (Puts (mark_lines params marks.now) text.old text.new) }
 {
     for mark in marks {
-        push_mark(text, *mark)?;
+        push_mark(text, params, *mark)?;
     }
     Ok(())
 }
 
 /// Puts the line of a mark behind the text.
-fn push_mark(text: &mut Text, mark: Mark) -> Result<(), NoMemory>
-    requires { HasMarkTime mark }
-    ensures { OnOk result (Puts (mark_line mark) text.old text.new) }
+fn push_mark(text: &mut Text, params: Params, mark: Mark) -> Result<(), NoMemory>
+    requires good { AreGoodParams params }
+    requires mark { IsMarkForm params 0 mark }
+    ensures { OnOk result (Puts (mark_line params mark) text.old text.new) }
+{
+    text.push_str("mark ")?;
+    text.push_str(mark_word(mark))?;
+    text.push_time(mark_minute(params, mark))?;
+    text.push_str("\n")
+}
+
+/// The word of a mark in a line.
+fn mark_word(mark: Mark) -> &'static str
+    ensures { result.now ≡ mark_word mark }
 {
     match mark {
-        Mark::SplitRest { at } => push_split(text, at),
-        // A lawful schedule of the United States defers no day.
-        Mark::DeferDay { day: _ } => Ok(()),
+        Mark::SplitRest { at: _ } => "split ",
+        Mark::DeferDay { day: _ } => "defer ",
     }
 }
 
-/// Puts the line of a split rest that begins at this minute behind the text.
-fn push_split(text: &mut Text, at: Minute) -> Result<(), NoMemory>
-    requires { at < MINUTES_OF_CENTURY }
-    ensures { OnOk result (Puts (mark_line (Mark.SplitRest at)) text.old text.new) }
+/// The minute at which the days of the book begin.
+fn day_start(params: Params) -> u16
+    ensures { result ≡ day_start params }
 {
-    text.push_str("mark split ")?;
-    text.push_time(at)?;
-    text.push_str("\n")
+    match params {
+        Params::UsProperty { day_start, .. } | Params::Canada { day_start, .. } => day_start,
+        Params::Hvnl {} => 0,
+    }
+}
+
+/// The minute of a mark: the first one of its rest run or of its day.
+fn mark_minute(params: Params, mark: Mark) -> Minute
+    requires good { AreGoodParams params }
+    requires mark { IsMarkForm params 0 mark }
+    ensures at { result ≡ nat_abs (mark_minute params mark) }
+    ensures century { result < MINUTES_OF_CENTURY }
+{
+    match mark {
+        Mark::SplitRest { at } => at,
+        Mark::DeferDay { day } => day_first(day, day_start(params)) as u32,
+    }
 }
 
 /// The first line of a report.
@@ -82,23 +130,13 @@ fn head_text(alloc: Global, tour: &Tour, schedule: &[Activity]) -> Result<Text, 
     let departs = departure(schedule) as u32;
     let ends = schedule.len() as u32;
     let mut text = Text::of(alloc, "shortest ")?;
-    push_clock(&mut text, alloc, (ends - departs) * tour.grid)?;
+    text.push_clock(alloc, (ends - departs) * tour.grid)?;
     text.push_str(" from ")?;
     text.push_time(minute_of(tour, departs))?;
     text.push_str(" to ")?;
     text.push_time(minute_of(tour, ends))?;
     text.push_str("\n")?;
     Ok(text)
-}
-
-/// Puts so many minutes behind the text, as hours and minutes.
-fn push_clock(text: &mut Text, alloc: Global, minutes: u32) -> Result<(), NoMemory>
-    ensures { OnOk result (text.new ≡ text.old ++ clock_text minutes) }
-{
-    let hours = minutes / 60;
-    let rest = minutes % 60;
-    let clock = format!(in alloc; "{hours}:{rest:02}")?;
-    text.push_str(clock.as_str())
 }
 
 /// The step of the departure.

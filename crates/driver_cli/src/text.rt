@@ -4,6 +4,7 @@ ghost use Rattle.std.specs.Fmt.{decimal};
 ghost use Rattle.civil_minutes.specs.Time.{IsTimeText};
 ghost use Rattle.civil_minutes.specs.declared.century.TheConstants.{MINUTES_OF_CENTURY};
 ghost use Rattle.driver_cli.specs.FaultText.{printable};
+ghost use Rattle.driver_cli.specs.Parts.{clock_text};
 
 use civil_minutes::write_minute;
 use duty_core::{Minute, NoMemory};
@@ -57,11 +58,21 @@ impl Text {
     }
 
     /// Puts a number behind it, in decimal.
-    pub fn push_number(&mut self, alloc: Global, number: u32) -> Result<(), NoMemory>
+    pub fn push_number(&mut self, alloc: Global, number: u64) -> Result<(), NoMemory>
         ensures { OnOk result (self.new ≡ self.old ++ decimal number) }
     {
         let digits = number.to_string(alloc)?;
         self.push_str(digits.as_str())
+    }
+
+    /// Puts so many minutes behind it, as hours and two digits of minutes.
+    pub fn push_clock(&mut self, alloc: Global, minutes: u32) -> Result<(), NoMemory>
+        ensures { OnOk result (self.new ≡ self.old ++ clock_text minutes) }
+    {
+        let hours = minutes / 60;
+        let rest = minutes % 60;
+        let clock = format!(in alloc; "{hours}:{rest:02}")?;
+        self.push_str(clock.as_str())
     }
 
     /// Puts the time of a civil minute behind it, as `YYYY-MM-DDTHH:MM`.

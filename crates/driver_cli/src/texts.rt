@@ -1,24 +1,28 @@
-//! The texts of the answers that tell no time.
-ghost use Rattle.std.specs.Prelude.{◌≡◌, IfOk};
-ghost use Rattle.driver_cli.specs.Texts.{spent_text, read_fault_text, tour_refused_text, log_refused_text};
+//! The texts of the answers.
+ghost use Rattle.std.specs.Prelude.{◌≡◌, ◌<◌, IfOk};
+ghost use Rattle.civil_minutes.specs.declared.century.TheConstants.{MINUTES_OF_CENTURY};
+ghost use Rattle.driver_cli.specs.Parts.{IsText};
+ghost use Rattle.driver_cli.specs.Texts.{spent_text, read_fault_text, write_fault_text, tour_refused_text, log_refused_text, unlawful_text, accepted_shortest_text, reason_text, rejected_text};
 
 use crate::fault_text::{push_log_fault, push_tour_fault};
 use crate::text::Text;
-use duty_core::NoMemory;
+use cert_checker::Reason;
+use duty_core::{Minute, NoMemory};
 use duty_log::LogFault;
 use outside::Word;
 use std::alloc::Global;
 use tour_reader::TourFault;
 
 /// The words that are sentences.
-pub const USAGE: &str = "usage: driver plan TOUR LOG [--budget N]\n       driver audit TOUR LOG\n";
+pub const USAGE: &str =
+    "usage: driver plan TOUR LOG CERT [--budget N]\n       driver check TOUR LOG CERT\n       driver audit TOUR LOG\n";
 
 /// The answer where the search's budget of labels is spent.
 pub fn spent_text(alloc: Global, budget: u32) -> Result<Text, NoMemory>
     ensures { IfOk result (λ text. text ≡ spent_text budget) }
 {
     let mut text = Text::of(alloc, "spent ")?;
-    text.push_number(alloc, budget)?;
+    text.push_number(alloc, u64::from(budget))?;
     text.push_str("\n")?;
     Ok(text)
 }
@@ -28,6 +32,16 @@ pub fn read_fault_text(alloc: Global, name: &Word) -> Result<Text, NoMemory>
     ensures { IfOk result (λ text. text ≡ read_fault_text name.now) }
 {
     let mut text = Text::of(alloc, "read fault ")?;
+    text.push_str(name.as_str())?;
+    text.push_str("\n")?;
+    Ok(text)
+}
+
+/// The answer where the file of that name could not be put.
+pub fn write_fault_text(alloc: Global, name: &Word) -> Result<Text, NoMemory>
+    ensures { IfOk result (λ text. text ≡ write_fault_text name.now) }
+{
+    let mut text = Text::of(alloc, "write fault ")?;
     text.push_str(name.as_str())?;
     text.push_str("\n")?;
     Ok(text)
@@ -49,6 +63,57 @@ pub fn log_refused_text(alloc: Global, fault: LogFault) -> Result<Text, NoMemory
 {
     let mut text = Text::of(alloc, "log refused: ")?;
     push_log_fault(&mut text, alloc, fault)?;
+    text.push_str("\n")?;
+    Ok(text)
+}
+
+/// The answer to a log that breaks a rule in the unit that begins at this minute.
+pub fn unlawful_text(alloc: Global, at: Minute) -> Result<Text, NoMemory>
+    requires { at < MINUTES_OF_CENTURY }
+    ensures { IfOk result (IsText (unlawful_text at)) }
+{
+    let mut text = Text::of(alloc, "log unlawful at ")?;
+    text.push_time(at)?;
+    text.push_str("\n")?;
+    Ok(text)
+}
+
+/// The answer to a valid certificate of a shortest schedule, which takes so many minutes.
+pub fn accepted_shortest_text(alloc: Global, minutes: u32) -> Result<Text, NoMemory>
+    ensures { IfOk result (λ text. text ≡ accepted_shortest_text minutes) }
+{
+    let mut text = Text::of(alloc, "accepted shortest ")?;
+    text.push_clock(alloc, minutes)?;
+    text.push_str("\n")?;
+    Ok(text)
+}
+
+/// The word of a reason.
+fn reason_text(reason: Reason) -> &'static str
+    ensures { result.now ≡ reason_text reason }
+{
+    match reason {
+        Reason::TooBig => "TOOBIG",
+        Reason::Grammar => "GRAMMAR",
+        Reason::Serves => "SERVES",
+        Reason::Length => "LENGTH",
+        Reason::Lawful => "LAWFUL",
+        Reason::Root => "ROOT",
+        Reason::State => "STATE",
+        Reason::Finished => "FINISHED",
+        Reason::Repeated => "REPEATED",
+        Reason::Successor => "SUCCESSOR",
+    }
+}
+
+/// The answer to a certificate that fails first at this line, for this reason.
+pub fn rejected_text(alloc: Global, line: u64, reason: Reason) -> Result<Text, NoMemory>
+    ensures { IfOk result (λ text. text ≡ rejected_text line reason) }
+{
+    let mut text = Text::of(alloc, "rejected line ")?;
+    text.push_number(alloc, line)?;
+    text.push_str(": ")?;
+    text.push_str(reason_text(reason))?;
     text.push_str("\n")?;
     Ok(text)
 }

@@ -1,4 +1,4 @@
-use Rattle.std.proofs.Common.{◌≡◌, ℕ, ◌<◌, ◌≤◌, true, false, length, get_or, arith, rules, Ok, Err, sym, ◌∙◌}
+use Rattle.std.proofs.Common.{◌≡◌, ◌<◌, get_or, arith, Ok, Err, sym, ◌∙◌}
 use Rattle.std.proofs.lemmas.Bool.Decides.{nat_tests}
 use Rattle.driver_cli.proofs.Budgets.{budget_head, budget_read, budget_some, budget_is_read}
 use Rattle.driver_cli.proofs.command.budget_of.Goals as goal

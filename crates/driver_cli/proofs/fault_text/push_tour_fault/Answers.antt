@@ -1,4 +1,4 @@
-use Rattle.std.proofs.Common.{◌≡◌, ◌++◌, ◌∙◌, ap, append_assoc, arith, codes, rules}
+use Rattle.std.proofs.Common.{◌≡◌, ◌++◌, ◌∙◌, ap, append_assoc, codes}
 use Rattle.driver_cli.proofs.fault_text.push_tour_fault.Goals as goal
 
 pub returns-in_ok-push_bytes-in-DuplicateStop : goal.returns-in_ok-push_bytes-in-DuplicateStop

@@ -1,4 +1,4 @@
-use Rattle.std.proofs.Common.{◌≡◌, ◌≤◌, List, length, Option, None, Some, ◌∙◌, sym, subst, arith}
+use Rattle.std.proofs.Common.{◌≤◌, length, ◌∙◌, sym, subst}
 use Rattle.driver_cli.proofs.Departure.{departure_at, departure_within}
 use Rattle.driver_cli.proofs.report.departure.Goals as goal
 

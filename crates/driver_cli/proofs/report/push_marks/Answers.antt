@@ -1,4 +1,4 @@
-use Rattle.std.proofs.Common.{◌+◌, take, sym, subst, arith}
+use Rattle.std.proofs.Common.{take, sym, subst, arith}
 use Rattle.driver_cli.specs.Parts.{Puts}
 use Rattle.driver_cli.specs.Report.{mark_line, mark_lines}
 use Rattle.driver_cli.proofs.RunLines.{puts_on, mark_lines_more}
@@ -6,5 +6,5 @@ use Rattle.driver_cli.proofs.report.push_marks.Goals as goal
 
 pub loop-mark-preserved : goal.loop-mark-preserved
 loop-mark-preserved c =
-    subst (λ ps. Puts ps c.args.text.now c.push_mark.new.text) (sym (mark_lines_more c.args.marks.now c.loop-mark.mark-index _ (omega arith)))
-    (puts_on (mark_lines (take c.loop-mark.mark-index c.args.marks.now)) (mark_line _) c.args.text.now c.loop-mark.text c.push_mark.new.text c.loop-mark.invariant c.in_ok-push_mark.ensures)
+    subst (λ ps. Puts ps c.args.text.now c.push_mark.new.text) (sym (mark_lines_more c.args.params c.args.marks.now c.loop-mark.mark-index _ (omega arith)))
+    (puts_on (mark_lines c.args.params (take c.loop-mark.mark-index c.args.marks.now)) (mark_line c.args.params _) c.args.text.now c.loop-mark.text c.push_mark.new.text c.loop-mark.invariant c.in_ok-push_mark.ensures)

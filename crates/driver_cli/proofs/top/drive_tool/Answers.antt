@@ -1,12 +1,17 @@
-use Rattle.driver_cli.proofs.Composed.{answer_ended}
-use Rattle.driver_cli.proofs.Exactly.{answer_exact, memory_exact}
+use Rattle.std.proofs.Common.{subst}
+use Rattle.std.proofs.KnownBytes.{Keeps-refl}
+use Rattle.std.specs.Prelude.{refl}
+use Rattle.driver_cli.specs.Steps.{Settles}
+use Rattle.driver_cli.proofs.Ended.{sent_ends, memory_ends}
+use Rattle.driver_cli.proofs.Stepped.{settled_answer, settled_memory}
 use Rattle.driver_cli.proofs.top.drive_tool.Goals as goal
 
-pub returns-in-Ok-clause-answer : goal.returns-in-Ok-clause-answer
-returns-in-Ok-clause-answer g c = answer_ended _ _ _ _ _ _ _ _ c.in-Ok.ensures.answer c.send_answer.ensures
+pub returns-in-Ok : goal.returns-in-Ok
+returns-in-Ok g c = record {
+  ends = sent_ends _ _ _ _ _ _ c.send_answer.ensures _ (settled_answer _ _ c.answer.result c.in-Ok.answer (subst (Settles c.answer.result) c.in-Ok.is c.settled.ensures) c.answer.ensures.answer);
+}
 
-pub returns-in-Ok-clause-exact : goal.returns-in-Ok-clause-exact
-returns-in-Ok-clause-exact g c = answer_exact _ _ _ _ _ _ _ _ c.in-Ok.ensures.answer c.send_answer.ensures
-
-pub returns-in-Err-clause-exact : goal.returns-in-Err-clause-exact
-returns-in-Err-clause-exact g c = memory_exact _
+pub returns-in-Err : goal.returns-in-Err
+returns-in-Err g c = record {
+  ends = memory_ends _ _ _ (record { nothing = Keeps-refl _; faults = refl }) _ (settled_memory _ _ c.answer.result c.in-Err.field-0 (subst (Settles c.answer.result) c.in-Err.is c.settled.ensures) c.answer.ensures.answer);
+}

@@ -1,0 +1,204 @@
+-- How a call ends: what its words are answered, and what sending that does.
+use Rattle.std.specs.Prelude.{◌≡◌, ℕ, List, Option, None, Some, cond, false, ⊤, refl}
+use Rattle.std.proofs.Common.{inl, inr, sym, subst, ap, ◌∙◌}
+use Rattle.std.specs.Ordering.{nat_cmp, eq_by_cmp, is_eq}
+use Rattle.std.specs.declared.cmp.Ordering.{Ordering}
+use Rattle.std.specs.declared.cmp.Ordering.TheVariants.{Less, Equal, Greater}
+use Rattle.std.specs.Cmp.Lexicographic.{slice_cmp, nat_list_cmp_total}
+use Rattle.std.specs.FinMap.{get, insert, get-insert, slice_cmp-IsAntisymmetric, nat_cmp-IsAntisymmetric}
+use Rattle.std.specs.Option.{option_map}
+use Rattle.outside.specs.Outside.{Bytes, Files, Rose, PutsOthers}
+use Rattle.driver_cli.specs.declared.answer.Status.{Status}
+use Rattle.driver_cli.specs.declared.answer.Status.TheVariants.{Done, Usage, Refused, Infeasible, LogUnlawful, Spent, ReadFault, WriteFault, Memory, Rejected}
+use Rattle.driver_cli.specs.declared.command.Command.{Command}
+use Rattle.driver_cli.specs.declared.command.Command.TheVariants.{Plan, Check, Audit}
+use Rattle.driver_cli.specs.Answers.{UsageAnswers, AuditAnswers, CheckAnswers, PlanAnswers, PlanLeaves}
+use Rattle.driver_cli.specs.Command.{IsSentence, IsNoSentence}
+use Rattle.driver_cli.specs.Ends.{Told, UsageEnds, AuditEnds, CheckEnds, PlanEnds, Ends}
+use Rattle.driver_cli.specs.Inputs.{LawfulAnswers}
+use Rattle.driver_cli.specs.Sent.{IsSent, IsUnsent, Sent}
+use Rattle.driver_cli.specs.Sides.{ReadSide, WriteSide, SinkSide, IsKept, HasPut}
+use Rattle.driver_cli.specs.Steps.{CommandAnswers, CommandLeaves, WordsAnswers, WordsLeave}
+use Rattle.driver_cli.proofs.Stages.{audit_stage, check_stage, plan_stage}
+use Rattle.driver_cli.proofs.Exactly.{audit_exact, audit_complete, check_exact, check_complete, plan_exact, plan_complete}
+use Rattle.driver_cli.proofs.Sentences.{same_command}
+
+-- ---- sending
+
+module _ (answers : Status → Bytes → Type 0) (left : Type 0) (s : SinkSide) (text : Bytes) where
+  whole : (status : Status) → (answers Memory text → ⊥) → answers status text → IsSent s text → Told answers left s status
+  whole Done m p sent = (text, p, sent)
+  whole Usage m p sent = (text, p, sent)
+  whole Refused m p sent = (text, p, sent)
+  whole Infeasible m p sent = (text, p, sent)
+  whole LogUnlawful m p sent = (text, p, sent)
+  whole Spent m p sent = (text, p, sent)
+  whole ReadFault m p sent = (text, p, sent)
+  whole Rejected m p sent = (text, p, sent)
+  whole WriteFault m p sent = inl (text, p, sent)
+  whole Memory m p sent = absurd (m p)
+
+  told : (status ended : Status) → (answers Memory text → ⊥) → (answers status text → left) → answers status text → Sent status text s ended → Told answers left s ended
+  told status ended m leaves p (inl h) = rw h.0 (whole status m p h.1)
+  told status ended m leaves p (inr (inl h)) = rw h.0 (inr (status, text, p, h.1))
+  told status ended m leaves p (inr (inr h)) = rw h.0 (leaves p, h.1)
+
+-- ---- files of other names
+
+same_others : (files : Option Files) (name : Bytes) → PutsOthers files files name
+same_others None name = tt
+same_others (Some files) name = λ other apart. refl
+
+apart_is_no_eq : (r : Ordering) → (r ≡ Equal → ⊥) → is_eq r ≡ false
+apart_is_no_eq Less apart = refl
+apart_is_no_eq Greater apart = refl
+apart_is_no_eq Equal apart = absurd (apart refl)
+
+insert_others : (files : Files) (name bytes other : Bytes) → (other ≡ name → ⊥) → get (insert files name bytes) other ≡ get files other
+insert_others files name bytes other apart =
+    let unequal : eq_by_cmp (slice_cmp nat_cmp) other name ≡ false = apart_is_no_eq (slice_cmp nat_cmp other name) (λ e. apart (slice_cmp-IsAntisymmetric nat_cmp-IsAntisymmetric other name e)) in
+    get-insert nat_list_cmp_total files name bytes other ∙ ap (λ b. cond b (Some bytes) (get files other)) unequal
+
+put_others : (files : Option Files) (name bytes : Bytes) → PutsOthers files (option_map (λ files. insert files name bytes) files) name
+put_others None name bytes = tt
+put_others (Some files) name bytes = λ other apart. insert_others files name bytes other apart
+
+kept_others : (w : WriteSide) (name : Bytes) → IsKept w → PutsOthers w.files_before w.files_now name
+kept_others w name k = subst (λ now. PutsOthers w.files_before now name) (sym k.files) (same_others w.files_before name)
+
+has_put_others : (w : WriteSide) (name bytes : Bytes) → HasPut w name bytes → PutsOthers w.files_before w.files_now name
+has_put_others w name bytes h = subst (λ now. PutsOthers w.files_before now name) (sym h.files) (put_others w.files_before name bytes)
+
+module _ (t l c : Bytes) (budget : ℕ) (r : ReadSide) (w : WriteSide) where
+  leaves_others : PlanLeaves t l c r w → PutsOthers w.files_before w.files_now c
+  leaves_others (inl k) = kept_others w c k
+  leaves_others (inr (inl h)) = has_put_others w c h.bytes h.put
+  leaves_others (inr (inr h)) = h.others
+
+  -- what an answer of `plan` leaves
+  plan_leaves : (status : Status) (text : Bytes) → PlanAnswers t l c budget r w status text → PlanLeaves t l c r w
+  plan_leaves Done text h = inr (inl record { tour = h.tour; log = h.log; lawful = h.lawful; bytes = h.bytes; cert = h.proof.cert; acceptable = h.proof.acceptable; put = h.put })
+  plan_leaves Infeasible text h = inr (inl record { tour = h.tour; log = h.log; lawful = h.lawful; bytes = h.bytes; cert = h.proof.cert; acceptable = h.proof.acceptable; put = h.put })
+  plan_leaves WriteFault text h = inr (inr h.unput)
+  plan_leaves Spent text h = inl h.0
+  plan_leaves Refused text h = inl h.0
+  plan_leaves LogUnlawful text h = inl h.0
+  plan_leaves ReadFault text h = inl h.0
+  plan_leaves Usage text h = inl h.0
+  plan_leaves Rejected text h = inl h.0
+  plan_leaves Memory text h = inl h.0
+
+-- ---- where nothing fails outside
+
+module _ (answers : Status → Bytes → Type 0) (left : Type 0) (s : SinkSide) (status : Status) where
+  no_read_fault : Told answers left s status → ((text : Bytes) → answers ReadFault text → ⊥) → ReadFault ≡ status → ⊥
+  no_read_fault e none is = let h : Told answers left s ReadFault = subst (λ x. Told answers left s x) (sym is) e in none h.0 h.1
+
+  no_write_fault : Told answers left s status → ((text : Bytes) → answers WriteFault text → ⊥) → (Rose s.faults_before s.faults_now → ⊥) → WriteFault ≡ status → ⊥
+  no_write_fault e none sends is = elim (subst (λ x. Told answers left s x) (sym is) e) [ inl h ↦ none h.0 h.1 | inr h ↦ sends h.3.rose ]
+
+no_input_fault : (t l : Bytes) (r : ReadSide) (text : Bytes) → (Rose r.faults_before r.faults_now → ⊥) → LawfulAnswers t l r ReadFault text → ⊥
+no_input_fault t l r text calm (inl h) = calm h.unread.rose
+no_input_fault t l r text calm (inr h) = calm h.unread.rose
+
+no_check_fault : (t l c : Bytes) (r : ReadSide) (text : Bytes) → (Rose r.faults_before r.faults_now → ⊥) → CheckAnswers t l c r ReadFault text → ⊥
+no_check_fault t l c r text calm (inl h) = no_input_fault t l r text calm h
+no_check_fault t l c r text calm (inr h) = calm h.unread.rose
+
+-- ---- each command
+
+module _ (r : ReadSide) (w : WriteSide) (s : SinkSide) (status : Status) where
+  audit_ends : (t l : Bytes) → IsKept w → Told (AuditAnswers t l r) ⊤ s status → AuditEnds t l r w s status
+  audit_ends t l kept e = record {
+    kept = kept;
+    told = e;
+    exact = λ files is. audit_exact r files is t l status (audit_stage t l r s status e);
+    complete = λ files is ok. audit_complete status
+        (no_read_fault (AuditAnswers t l r) ⊤ s status e (λ text h. no_input_fault t l r text ok.fetches h))
+        (no_write_fault (AuditAnswers t l r) ⊤ s status e (λ text h. h) ok.sends) files t l (audit_exact r files is t l status (audit_stage t l r s status e));
+  }
+
+  check_ends : (t l c : Bytes) → IsKept w → Told (CheckAnswers t l c r) ⊤ s status → CheckEnds t l c r w s status
+  check_ends t l c kept e = record {
+    kept = kept;
+    told = e;
+    exact = λ files is. check_exact r files is t l c status (check_stage t l c r s status e);
+    complete = λ files is ok. check_complete status
+        (no_read_fault (CheckAnswers t l c r) ⊤ s status e (λ text h. no_check_fault t l c r text ok.fetches h))
+        (no_write_fault (CheckAnswers t l c r) ⊤ s status e (λ text h. h) ok.sends) files t l c (check_exact r files is t l c status (check_stage t l c r s status e));
+  }
+
+  plan_ends : (t l c : Bytes) (budget : ℕ) → PutsOthers w.files_before w.files_now c → Told (PlanAnswers t l c budget r w) (PlanLeaves t l c r w) s status → PlanEnds t l c budget r w s status
+  plan_ends t l c budget others e = record {
+    others = others;
+    told = e;
+    exact = λ files is. plan_exact r files is t l budget status (plan_stage t l c budget r w s status e);
+    complete = λ files is ok. plan_complete status
+        (no_read_fault (PlanAnswers t l c budget r w) (PlanLeaves t l c r w) s status e (λ text h. no_input_fault t l r text ok.fetches h.1))
+        (no_write_fault (PlanAnswers t l c budget r w) (PlanLeaves t l c r w) s status e (λ text h. ok.puts h.unput.rose) ok.sends) files t l budget
+        (plan_exact r files is t l budget status (plan_stage t l c budget r w s status e));
+  }
+
+  -- how a call of a command ends
+  abbrev CommandEnds : Command → Type 0
+  CommandEnds (Plan t l c budget) = PlanEnds t l c budget r w s status
+  CommandEnds (Check t l c) = CheckEnds t l c r w s status
+  CommandEnds (Audit t l) = AuditEnds t l r w s status
+
+  by_command : (words : List Bytes) (command : Command) → IsSentence words command → CommandEnds command → Ends words r w s status
+  by_command words command is e = record {
+    usage = λ none. absurd (none command is);
+    audit = λ t l is'. subst CommandEnds (same_command words command (Audit t l) is is') e;
+    check = λ t l c is'. subst CommandEnds (same_command words command (Check t l c) is is') e;
+    plan = λ t l c budget is'. subst CommandEnds (same_command words command (Plan t l c budget) is is') e;
+  }
+
+  by_usage : (words : List Bytes) → IsNoSentence words → UsageEnds w s status → Ends words r w s status
+  by_usage words none e = record {
+    usage = λ same. e;
+    audit = λ t l is. absurd (none (Audit t l) is);
+    check = λ t l c is. absurd (none (Check t l c) is);
+    plan = λ t l c budget is. absurd (none (Plan t l c budget) is);
+  }
+
+-- ---- an answer that is sent
+
+usage_ends : (w : WriteSide) (s : SinkSide) (status : Status) → IsKept w → Told UsageAnswers ⊤ s status → UsageEnds w s status
+usage_ends w s Usage kept e = record { kept = kept; told = e; exact = inl refl }
+usage_ends w s WriteFault kept e = record { kept = kept; told = e; exact = inr (inl refl) }
+usage_ends w s Memory kept e = record { kept = kept; told = e; exact = inr (inr (inl refl)) }
+usage_ends w s Done kept e = absurd e.1
+usage_ends w s Refused kept e = absurd e.1
+usage_ends w s Infeasible kept e = absurd e.1
+usage_ends w s LogUnlawful kept e = absurd e.1
+usage_ends w s Spent kept e = absurd e.1
+usage_ends w s ReadFault kept e = absurd e.1
+usage_ends w s Rejected kept e = absurd e.1
+
+module _ (r : ReadSide) (w : WriteSide) (s : SinkSide) (status ended : Status) (text : Bytes) (sent : Sent status text s ended) where
+  command_ends : (command : Command) → CommandAnswers command r w status text → CommandEnds r w s ended command
+  command_ends (Audit t l) h = audit_ends r w s ended t l h.0 (told (AuditAnswers t l r) ⊤ s text status ended (λ x. x) (λ x. tt) h.1 sent)
+  command_ends (Check t l c) h = check_ends r w s ended t l c h.0 (told (CheckAnswers t l c r) ⊤ s text status ended (λ x. x) (λ x. tt) h.1 sent)
+  command_ends (Plan t l c budget) h = plan_ends r w s ended t l c budget (leaves_others t l c budget r w (plan_leaves t l c budget r w status text h))
+      (told (PlanAnswers t l c budget r w) (PlanLeaves t l c r w) s text status ended (λ x. x.1) (plan_leaves t l c budget r w status text) h sent)
+
+  pub sent_ends : (words : List Bytes) → WordsAnswers words r w status text → Ends words r w s ended
+  sent_ends words (inl h) = by_usage r w s ended words h.0 (usage_ends w s ended h.1 (told UsageAnswers ⊤ s text status ended (λ x. x) (λ x. tt) h.2 sent))
+  sent_ends words (inr h) = by_command r w s ended words h.0 h.1 (command_ends h.0 h.2)
+
+-- ---- memory wanting before there is an answer
+
+module _ (r : ReadSide) (w : WriteSide) (s : SinkSide) (unsent : IsUnsent s) where
+  command_memory : (command : Command) → CommandLeaves command r w → CommandEnds r w s Memory command
+  command_memory (Audit t l) kept = audit_ends r w s Memory t l kept (tt, unsent)
+  command_memory (Check t l c) kept = check_ends r w s Memory t l c kept (tt, unsent)
+  command_memory (Plan t l c budget) leaves = plan_ends r w s Memory t l c budget (leaves_others t l c budget r w leaves) (leaves, unsent)
+
+  pub memory_ends : (words : List Bytes) → WordsLeave words r w → Ends words r w s Memory
+  memory_ends words (inl kept) = record {
+    usage = λ none. usage_ends w s Memory kept (tt, unsent);
+    audit = λ t l is. command_memory (Audit t l) kept;
+    check = λ t l c is. command_memory (Check t l c) kept;
+    plan = λ t l c budget is. command_memory (Plan t l c budget) (inl kept);
+  }
+  memory_ends words (inr h) = by_command r w s Memory words h.0 h.1 (command_memory h.0 h.2)

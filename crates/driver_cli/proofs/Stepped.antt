@@ -1,0 +1,232 @@
+-- How the steps of a command make its answer.
+use Rattle.std.specs.Prelude.{◌≡◌, ◌⊎◌, ℕ, List, Option, Result, Ok, Err, IsErrAnd, ⊤}
+use Rattle.std.proofs.Common.{inl, inr, sym, subst}
+use Rattle.duty_core.specs.declared.activity.Activity.{Activity}
+use Rattle.duty_core.specs.declared.memory.NoMemory.{NoMemory}
+use Rattle.outside.specs.Outside.{Bytes, Files}
+use Rattle.tour_model.specs.declared.tour.Tour.{Tour}
+use Rattle.tour_model.specs.Tour.{IsTour}
+use Rattle.tour_plan.specs.Planned.{IsLawfulLog}
+use Rattle.driver_cli.specs.declared.answer.Answer.{Answer}
+use Rattle.driver_cli.specs.declared.command.Command.{Command}
+use Rattle.driver_cli.specs.Command.{IsSentence}
+use Rattle.driver_cli.specs.declared.answer.Halt.{Halt}
+use Rattle.driver_cli.specs.declared.answer.Halt.TheVariants as halt
+use Rattle.driver_cli.specs.declared.answer.Status.{Status}
+use Rattle.driver_cli.specs.declared.answer.Status.TheVariants.{Done, Usage, Refused, Infeasible, LogUnlawful, Spent, ReadFault, WriteFault, Memory, Rejected}
+use Rattle.driver_cli.specs.Answers.{AuditAnswers, BytesAnswers, CheckAnswers, PlanAnswers, PlanLeaves}
+use Rattle.driver_cli.specs.Fetched.{IsFileFault, IsTourFault, IsTourFetched, IsLogFault, IsLogFetched, IsFetched, AreInputsFetched}
+use Rattle.driver_cli.specs.Given.{GivesTour, GivesLog, GivesCert}
+use Rattle.driver_cli.specs.Inputs.{AreGiven, AreRead, AreLawful, IsUnlawful, InputAnswers, LawfulAnswers}
+use Rattle.driver_cli.specs.Sides.{ReadSide, read_side, WriteSide, write_side, IsKept, HasPut, IsUnput}
+use Rattle.driver_cli.specs.Steps.{Concludes, IsLawfulOr, Proves, Declines, IsProposed, IsCertPut, CommandAnswers, CommandLeaves, WordsAnswers, WordsLeave, Settles}
+use Rattle.driver_cli.specs.Texts.{write_fault_text}
+
+-- what is known of a step behind one that changed nothing and failed no fetch
+pub rebased : (P : ReadSide → Type 0) (files files' : Option Files) (before before' now : ℕ) (failed : Option Bytes) → files' ≡ files → before' ≡ before → P (read_side files' before' now failed) → P (read_side files before now failed)
+rebased P files files' before before' now failed e f p = subst (λ b. P (read_side files b now failed)) f (subst (λ x. P (read_side x before' now failed)) e p)
+
+-- ---- the two files
+
+tour_stops : (t l : Bytes) (r : ReadSide) (status : Status) (text : Bytes) → IsFileFault t r status text ⊎ IsTourFault t r status text → InputAnswers t l r status text
+tour_stops t l r status text (inl h) = rw h.is (inl record { unread = h.unread; told = h.told })
+tour_stops t l r status text (inr h) = rw h.is (inl record { fault = h.fault; given = h.given; unfailed = h.unfailed; told = h.told })
+
+log_stops : (t l : Bytes) (r : ReadSide) (tour : Tour) (status : Status) (text : Bytes) → GivesTour r.files t (Ok tour) → IsFileFault l r status text ⊎ IsLogFault tour l r status text → InputAnswers t l r status text
+log_stops t l r tour status text g (inl h) = rw h.is (inr record { tour = tour; tour_given = g; unread = h.unread; told = h.told })
+log_stops t l r tour status text g (inr h) = rw h.is (inr record { tour = tour; tour_given = g; fault = h.fault; given = h.given; unfailed = h.unfailed; told = h.told })
+
+pub tour_halts : (t l : Bytes) (r : ReadSide) (e : Halt) → IsTourFetched t r (Err e) → AreInputsFetched t l r (Err e)
+tour_halts t l r (halt.Answered a) h = tour_stops t l r a.status a.text h
+tour_halts t l r halt.Memory h = tt
+
+pub log_halts : (t l : Bytes) (r : ReadSide) (tour : Tour) (e : Halt) → GivesTour r.files t (Ok tour) → IsLogFetched tour l r (Err e) → AreInputsFetched t l r (Err e)
+log_halts t l r tour (halt.Answered a) g h = log_stops t l r tour a.status a.text g h
+log_halts t l r tour halt.Memory g h = tt
+
+pub both_read : (t l : Bytes) (r : ReadSide) (tour : Tour) (log : List Activity) → IsTour tour → GivesTour r.files t (Ok tour) → IsLogFetched tour l r (Ok log) → AreInputsFetched t l r (Ok (record { tour = tour; log = log }))
+both_read t l r tour log is g h = (is, h.0, record { given = record { tour_given = g; log_given = h.1 }; unfailed = h.2 })
+
+-- ---- up to a lawful log
+
+input_lawful : (t l : Bytes) (r : ReadSide) (status : Status) (text : Bytes) → InputAnswers t l r status text → LawfulAnswers t l r status text
+input_lawful t l r Refused text h = h
+input_lawful t l r ReadFault text h = h
+input_lawful t l r Done text h = absurd h
+input_lawful t l r Usage text h = absurd h
+input_lawful t l r Infeasible text h = absurd h
+input_lawful t l r LogUnlawful text h = absurd h
+input_lawful t l r Spent text h = absurd h
+input_lawful t l r WriteFault text h = absurd h
+input_lawful t l r Memory text h = absurd h
+input_lawful t l r Rejected text h = absurd h
+
+unlawful_lawful : (t l : Bytes) (r : ReadSide) (tour : Tour) (log : List Activity) (status : Status) (text : Bytes) → AreRead t l r tour log → status ≡ LogUnlawful → IsUnlawful tour log text → LawfulAnswers t l r status text
+unlawful_lawful t l r tour log status text read is u = rw is record { tour = tour; log = log; read = read; unlawful = u }
+
+-- ---- `audit`
+
+lawful_audit : (t l : Bytes) (r : ReadSide) (status : Status) (text : Bytes) → LawfulAnswers t l r status text → AuditAnswers t l r status text
+lawful_audit t l r Refused text h = h
+lawful_audit t l r ReadFault text h = h
+lawful_audit t l r LogUnlawful text h = h
+lawful_audit t l r Done text h = absurd h
+lawful_audit t l r Usage text h = absurd h
+lawful_audit t l r Infeasible text h = absurd h
+lawful_audit t l r Spent text h = absurd h
+lawful_audit t l r WriteFault text h = absurd h
+lawful_audit t l r Memory text h = absurd h
+lawful_audit t l r Rejected text h = absurd h
+
+pub audit_halts : (t l : Bytes) (r : ReadSide) (e : Halt) → AreInputsFetched t l r (Err e) → Concludes (Err e) (AuditAnswers t l r) ⊤
+audit_halts t l r (halt.Answered a) h = lawful_audit t l r a.status a.text (input_lawful t l r a.status a.text h)
+audit_halts t l r halt.Memory h = tt
+
+pub audit_unlawful : (t l : Bytes) (r : ReadSide) (tour : Tour) (log : List Activity) (e : Halt) → AreRead t l r tour log → IsLawfulOr tour log (Err e) → Concludes (Err e) (AuditAnswers t l r) ⊤
+audit_unlawful t l r tour log (halt.Answered a) read h = lawful_audit t l r a.status a.text (unlawful_lawful t l r tour log a.status a.text read h.0 h.1)
+audit_unlawful t l r tour log halt.Memory read h = tt
+
+-- ---- `check`
+
+lawful_check : (t l c : Bytes) (r : ReadSide) (status : Status) (text : Bytes) → LawfulAnswers t l r status text → CheckAnswers t l c r status text
+lawful_check t l c r Refused text h = h
+lawful_check t l c r ReadFault text h = inl h
+lawful_check t l c r LogUnlawful text h = h
+lawful_check t l c r Done text h = absurd h
+lawful_check t l c r Usage text h = absurd h
+lawful_check t l c r Infeasible text h = absurd h
+lawful_check t l c r Spent text h = absurd h
+lawful_check t l c r WriteFault text h = absurd h
+lawful_check t l c r Memory text h = absurd h
+lawful_check t l c r Rejected text h = absurd h
+
+pub check_halts : (t l c : Bytes) (r : ReadSide) (e : Halt) → AreInputsFetched t l r (Err e) → Concludes (Err e) (CheckAnswers t l c r) ⊤
+check_halts t l c r (halt.Answered a) h = lawful_check t l c r a.status a.text (input_lawful t l r a.status a.text h)
+check_halts t l c r halt.Memory h = tt
+
+pub check_unlawful : (t l c : Bytes) (r : ReadSide) (tour : Tour) (log : List Activity) (e : Halt) → AreRead t l r tour log → IsLawfulOr tour log (Err e) → Concludes (Err e) (CheckAnswers t l c r) ⊤
+check_unlawful t l c r tour log (halt.Answered a) read h = lawful_check t l c r a.status a.text (unlawful_lawful t l r tour log a.status a.text read h.0 h.1)
+check_unlawful t l c r tour log halt.Memory read h = tt
+
+cert_unread : (t l c : Bytes) (r : ReadSide) (tour : Tour) (log : List Activity) (status : Status) (text : Bytes) → AreGiven t l r tour log → IsLawfulLog tour log → IsFileFault c r status text → CheckAnswers t l c r status text
+cert_unread t l c r tour log status text given lawful h = rw h.is (inr record { tour = tour; log = log; given = given; lawful = lawful; unread = h.unread; told = h.told })
+
+pub cert_halts : (t l c : Bytes) (r : ReadSide) (tour : Tour) (log : List Activity) (limit : ℕ) (e : Halt) → AreGiven t l r tour log → IsLawfulLog tour log → IsFetched c limit r (Err e) → Concludes (Err e) (CheckAnswers t l c r) ⊤
+cert_halts t l c r tour log limit (halt.Answered a) given lawful h = cert_unread t l c r tour log a.status a.text given lawful h
+cert_halts t l c r tour log limit halt.Memory given lawful h = tt
+
+pub cert_checked : (t l c : Bytes) (r : ReadSide) (tour : Tour) (log : List Activity) (bytes : Bytes) (status : Status) (text : Bytes) → AreLawful t l r tour log → GivesCert r.files c bytes → BytesAnswers tour log bytes status text → CheckAnswers t l c r status text
+cert_checked t l c r tour log bytes Done text lawful given h = record { tour = tour; log = log; lawful = lawful; bytes = bytes; given = given; answer = h }
+cert_checked t l c r tour log bytes Rejected text lawful given h = record { tour = tour; log = log; lawful = lawful; bytes = bytes; given = given; answer = h }
+cert_checked t l c r tour log bytes Refused text lawful given h = absurd h
+cert_checked t l c r tour log bytes ReadFault text lawful given h = absurd h
+cert_checked t l c r tour log bytes LogUnlawful text lawful given h = absurd h
+cert_checked t l c r tour log bytes Usage text lawful given h = absurd h
+cert_checked t l c r tour log bytes Infeasible text lawful given h = absurd h
+cert_checked t l c r tour log bytes Spent text lawful given h = absurd h
+cert_checked t l c r tour log bytes WriteFault text lawful given h = absurd h
+cert_checked t l c r tour log bytes Memory text lawful given h = absurd h
+
+-- ---- `plan`
+
+lawful_plan : (t l c : Bytes) (budget : ℕ) (r : ReadSide) (w : WriteSide) (status : Status) (text : Bytes) → IsKept w → LawfulAnswers t l r status text → PlanAnswers t l c budget r w status text
+lawful_plan t l c budget r w Refused text kept h = (kept, h)
+lawful_plan t l c budget r w ReadFault text kept h = (kept, h)
+lawful_plan t l c budget r w LogUnlawful text kept h = (kept, h)
+lawful_plan t l c budget r w Done text kept h = absurd h
+lawful_plan t l c budget r w Usage text kept h = absurd h
+lawful_plan t l c budget r w Infeasible text kept h = absurd h
+lawful_plan t l c budget r w Spent text kept h = absurd h
+lawful_plan t l c budget r w WriteFault text kept h = absurd h
+lawful_plan t l c budget r w Memory text kept h = absurd h
+lawful_plan t l c budget r w Rejected text kept h = absurd h
+
+module _ (t l c : Bytes) (budget : ℕ) (r : ReadSide) (w : WriteSide) where
+  pub plan_halts : (e : Halt) → IsKept w → AreInputsFetched t l r (Err e) → Concludes (Err e) (PlanAnswers t l c budget r w) (PlanLeaves t l c r w)
+  plan_halts (halt.Answered a) kept h = lawful_plan t l c budget r w a.status a.text kept (input_lawful t l r a.status a.text h)
+  plan_halts halt.Memory kept h = inl kept
+
+  declined : (tour : Tour) (log : List Activity) (status : Status) (text : Bytes) → IsKept w → AreRead t l r tour log → Declines tour log budget status text → PlanAnswers t l c budget r w status text
+  declined tour log Spent text kept read h = (kept, record { tour = tour; log = log; lawful = record { read = read; lawful = h.0 }; spent = h.1; told = h.2 })
+  declined tour log LogUnlawful text kept read h = (kept, record { tour = tour; log = log; read = read; unlawful = h })
+  declined tour log Done text kept read h = absurd h
+  declined tour log Usage text kept read h = absurd h
+  declined tour log Refused text kept read h = absurd h
+  declined tour log Infeasible text kept read h = absurd h
+  declined tour log ReadFault text kept read h = absurd h
+  declined tour log WriteFault text kept read h = absurd h
+  declined tour log Memory text kept read h = absurd h
+  declined tour log Rejected text kept read h = absurd h
+
+  pub plan_declines : (tour : Tour) (log : List Activity) (e : Halt) → IsKept w → AreRead t l r tour log → IsProposed tour log budget (Err e) → Concludes (Err e) (PlanAnswers t l c budget r w) (PlanLeaves t l c r w)
+  plan_declines tour log (halt.Answered a) kept read h = declined tour log a.status a.text kept read h
+  plan_declines tour log halt.Memory kept read h = inl kept
+
+  unput : (tour : Tour) (log : List Activity) (status : Status) (text : Bytes) → AreLawful t l r tour log → IsUnput w c → status ≡ WriteFault → text ≡ write_fault_text c → PlanAnswers t l c budget r w status text
+  unput tour log status text lawful h is told = rw is record { tour = tour; log = log; lawful = lawful; unput = h; told = told }
+
+  pub put_halts : (tour : Tour) (log : List Activity) (bytes : Bytes) (e : Halt) → AreLawful t l r tour log → IsCertPut c bytes w (Err e) → Concludes (Err e) (PlanAnswers t l c budget r w) (PlanLeaves t l c r w)
+  put_halts tour log bytes (halt.Answered a) lawful h = unput tour log a.status a.text lawful h.0 h.1 h.2
+  put_halts tour log bytes halt.Memory lawful (inl kept) = inl kept
+  put_halts tour log bytes halt.Memory lawful (inr h) = inr (inr h)
+
+  pub proved : (tour : Tour) (log : List Activity) (bytes : Bytes) (status : Status) (text : Bytes) → AreLawful t l r tour log → Proves tour log bytes status text → HasPut w c bytes → PlanAnswers t l c budget r w status text
+  proved tour log bytes Done text lawful h put = record { tour = tour; log = log; lawful = lawful; bytes = bytes; proof = h; put = put }
+  proved tour log bytes Infeasible text lawful h put = record { tour = tour; log = log; lawful = lawful; bytes = bytes; proof = h; put = put }
+  proved tour log bytes Usage text lawful h put = absurd h
+  proved tour log bytes Refused text lawful h put = absurd h
+  proved tour log bytes LogUnlawful text lawful h put = absurd h
+  proved tour log bytes Spent text lawful h put = absurd h
+  proved tour log bytes ReadFault text lawful h put = absurd h
+  proved tour log bytes WriteFault text lawful h put = absurd h
+  proved tour log bytes Memory text lawful h put = absurd h
+  proved tour log bytes Rejected text lawful h put = absurd h
+
+-- ---- all commands
+
+-- nothing is put
+pub untouched : (files files' : Option Files) (before now : ℕ) (failed failed' : Option Bytes) → files' ≡ files → now ≡ before → failed' ≡ failed → IsKept (write_side files files' before now failed failed')
+untouched files files' before now failed failed' e f g = record { files = e; faults = f; failed = g }
+
+pub keeping : (answers : Status → Bytes → Type 0) (w : WriteSide) (end : Result Answer Halt) → IsKept w → Concludes end answers ⊤ → Concludes end (λ status text. IsKept w × answers status text) (IsKept w)
+keeping answers w (Ok a) kept h = (kept, h)
+keeping answers w (Err (halt.Answered a)) kept h = (kept, h)
+keeping answers w (Err halt.Memory) kept h = kept
+
+pub words_run : (words : List Bytes) (command : Command) (r : ReadSide) (w : WriteSide) (end : Result Answer Halt) → IsSentence words command → Concludes end (CommandAnswers command r w) (CommandLeaves command r w) → Concludes end (WordsAnswers words r w) (WordsLeave words r w)
+words_run words command r w (Ok a) is h = inr (command, is, h)
+words_run words command r w (Err (halt.Answered a)) is h = inr (command, is, h)
+words_run words command r w (Err halt.Memory) is h = inr (command, is, h)
+
+-- ---- what a `?` hands on
+
+pub handed_on : (end : Result Answer Halt) (e : Halt) (answers : Status → Bytes → Type 0) (memory : Type 0) → IsErrAnd end (λ x. x ≡ e) → Concludes (Err e) answers memory → Concludes end answers memory
+handed_on (Ok a) e answers memory h p = absurd h
+handed_on (Err x) e answers memory h p = subst (λ y. Concludes (Err y) answers memory) (sym h) p
+
+pub memory_on : (end : Result Answer Halt) (answers : Status → Bytes → Type 0) (memory : Type 0) → IsErrAnd end (λ x. x ≡ halt.Memory) → memory → Concludes end answers memory
+memory_on end answers memory h m = handed_on end halt.Memory answers memory h m
+
+-- the two files are given to a later step too
+pub still_given : (t l : Bytes) (r r' : ReadSide) (tour : Tour) (log : List Activity) → r.files ≡ r'.files → AreGiven t l r tour log → AreGiven t l r' tour log
+still_given t l r r' tour log same g = record {
+  tour_given = subst (λ f. GivesTour f t (Ok tour)) same g.tour_given;
+  log_given = subst (λ f. GivesLog f l tour (Ok log)) same g.log_given;
+}
+
+-- what is known of a put behind steps that put nothing
+pub rewritten : (P : WriteSide → Type 0) (files files' files2 : Option Files) (before before' now : ℕ) (failed failed' failed2 : Option Bytes) → files' ≡ files → before' ≡ before → failed' ≡ failed → P (write_side files' files2 before' now failed' failed2) → P (write_side files files2 before now failed failed2)
+rewritten P files files' files2 before before' now failed failed' failed2 e f g p =
+    subst (λ x. P (write_side files files2 before now x failed2)) g (subst (λ n. P (write_side files files2 n now failed' failed2)) f (subst (λ x. P (write_side x files2 before' now failed' failed2)) e p))
+
+-- ---- the answer that is sent
+
+pub settled_answer : (answers : Status → Bytes → Type 0) (memory : Type 0) (ended : Result Answer Halt) (a : Answer) → Settles ended (Ok a) → Concludes ended answers memory → answers a.status a.text
+settled_answer answers memory (Ok b) a e h = let same : a ≡ b = cc in subst (λ x. answers x.status x.text) (sym same) h
+settled_answer answers memory (Err (halt.Answered b)) a e h = let same : a ≡ b = cc in subst (λ x. answers x.status x.text) (sym same) h
+settled_answer answers memory (Err halt.Memory) a e h = absurd (let z : (let p : Result Answer NoMemory = Ok a in p ≡ Err e.0) = e.1 in cc)
+
+pub settled_memory : (answers : Status → Bytes → Type 0) (memory : Type 0) (ended : Result Answer Halt) (none : NoMemory) → Settles ended (Err none) → Concludes ended answers memory → memory
+settled_memory answers memory (Ok b) none e h = absurd (let z : (let p : Result Answer NoMemory = Err none in p ≡ Ok b) = e in cc)
+settled_memory answers memory (Err (halt.Answered b)) none e h = absurd (let z : (let p : Result Answer NoMemory = Err none in p ≡ Ok b) = e in cc)
+settled_memory answers memory (Err halt.Memory) none e h = h

@@ -1,0 +1,52 @@
+-- What a call of the planner does, for each sentence.
+use Rattle.std.specs.Prelude.{◌≡◌, ◌⊎◌, ℕ, List, Some, [], ◌∷◌, ⊤}
+use Rattle.rule_core.specs.Reach.{IsOneOf}
+use Rattle.outside.specs.Outside.{Bytes, Files, PutsOthers}
+use Rattle.driver_cli.specs.declared.answer.Status.{Status}
+use Rattle.driver_cli.specs.declared.answer.Status.TheVariants.{Usage, WriteFault, Memory}
+use Rattle.driver_cli.specs.declared.command.Command.TheVariants.{Plan, Check, Audit}
+use Rattle.driver_cli.specs.Answers.{UsageAnswers, AuditAnswers, CheckAnswers, PlanAnswers, PlanLeaves}
+use Rattle.driver_cli.specs.Command.{IsSentence, IsNoSentence}
+use Rattle.driver_cli.specs.Exact.{IsUnharmed, AuditExact, AuditComplete, CheckExact, CheckComplete, PlanExact, PlanComplete}
+use Rattle.driver_cli.specs.Sent.{IsSent, IsCutOff, IsUnsent}
+use Rattle.driver_cli.specs.Sides.{ReadSide, WriteSide, SinkSide, IsKept}
+
+-- How a call ends whose answers are of this table: an answer that has its cause is sent whole; or its sending failed, and some first part was appended; or memory was wanting, nothing was appended, and `left` holds.
+abbrev pub Told : (Status → Bytes → Type 0) → Type 0 → SinkSide → Status → Type 0
+Told answers left s Memory = left × IsUnsent s
+Told answers left s WriteFault = ((text : Bytes) × answers WriteFault text × IsSent s text) ⊎ ((status : Status) × (text : Bytes) × answers status text × IsCutOff s text)
+Told answers left s status = (text : Bytes) × answers status text × IsSent s text
+
+-- Words that are no sentence.
+pub record UsageEnds (w : WriteSide) (s : SinkSide) (status : Status) : Type 0 where
+  pub kept : IsKept w
+  pub told : Told UsageAnswers ⊤ s status
+  pub exact : IsOneOf (Usage ∷ WriteFault ∷ Memory ∷ []) status
+
+-- `audit` of the files of these names.
+pub record AuditEnds (tour_name log_name : Bytes) (r : ReadSide) (w : WriteSide) (s : SinkSide) (status : Status) : Type 0 where
+  pub kept : IsKept w
+  pub told : Told (AuditAnswers tour_name log_name r) ⊤ s status
+  pub exact : (files : Files) → r.files ≡ Some files → AuditExact files tour_name log_name status
+  pub complete : (files : Files) → r.files ≡ Some files → IsUnharmed r w s → AuditComplete files tour_name log_name status
+
+-- `check` of the files of these names.
+pub record CheckEnds (tour_name log_name cert_name : Bytes) (r : ReadSide) (w : WriteSide) (s : SinkSide) (status : Status) : Type 0 where
+  pub kept : IsKept w
+  pub told : Told (CheckAnswers tour_name log_name cert_name r) ⊤ s status
+  pub exact : (files : Files) → r.files ≡ Some files → CheckExact files tour_name log_name cert_name status
+  pub complete : (files : Files) → r.files ≡ Some files → IsUnharmed r w s → CheckComplete files tour_name log_name cert_name status
+
+-- `plan` with the files of these names and this budget of labels. Files of other names than the certificate's stay as they were.
+pub record PlanEnds (tour_name log_name cert_name : Bytes) (budget : ℕ) (r : ReadSide) (w : WriteSide) (s : SinkSide) (status : Status) : Type 0 where
+  pub others : PutsOthers w.files_before w.files_now cert_name
+  pub told : Told (PlanAnswers tour_name log_name cert_name budget r w) (PlanLeaves tour_name log_name cert_name r w) s status
+  pub exact : (files : Files) → r.files ≡ Some files → PlanExact files tour_name log_name budget status
+  pub complete : (files : Files) → r.files ≡ Some files → IsUnharmed r w s → PlanComplete files tour_name log_name budget status
+
+-- The call does what its words ask for.
+pub record Ends (words : List Bytes) (r : ReadSide) (w : WriteSide) (s : SinkSide) (status : Status) : Type 0 where
+  pub usage : IsNoSentence words → UsageEnds w s status
+  pub audit : (tour log : Bytes) → IsSentence words (Audit tour log) → AuditEnds tour log r w s status
+  pub check : (tour log cert : Bytes) → IsSentence words (Check tour log cert) → CheckEnds tour log cert r w s status
+  pub plan : (tour log cert : Bytes) (budget : ℕ) → IsSentence words (Plan tour log cert budget) → PlanEnds tour log cert budget r w s status

@@ -1,0 +1,64 @@
+-- What a call meets and leaves outside.
+use Rattle.std.specs.Prelude.{◌≡◌, ℕ, Option, Some}
+use Rattle.std.specs.FinMap.{insert}
+use Rattle.std.specs.Option.{option_map}
+use Rattle.outside.specs.Outside.{Bytes, Files, Rose, PutsOthers}
+
+-- What the fetches of a call meet: the files of the desk before the call, how many fetches had failed before and have now, and the name of the last one.
+pub record ReadSide : Type 0 where
+  pub files : Option Files
+  pub faults_before : ℕ
+  pub faults_now : ℕ
+  pub failed_now : Option Bytes
+
+abbrev pub read_side : Option Files → ℕ → ℕ → Option Bytes → ReadSide
+read_side files before now failed = record { files = files; faults_before = before; faults_now = now; failed_now = failed }
+
+-- What the puts of a call leave: the files of the desk before and now, how many puts had failed and have, and the name of the last one.
+pub record WriteSide : Type 0 where
+  pub files_before : Option Files
+  pub files_now : Option Files
+  pub faults_before : ℕ
+  pub faults_now : ℕ
+  pub failed_before : Option Bytes
+  pub failed_now : Option Bytes
+
+abbrev pub write_side : Option Files → Option Files → ℕ → ℕ → Option Bytes → Option Bytes → WriteSide
+write_side files files' before now failed failed' = record { files_before = files; files_now = files'; faults_before = before; faults_now = now; failed_before = failed; failed_now = failed' }
+
+-- What a call sends: the bytes of the sink before and now, and how many sends had failed and have.
+pub record SinkSide : Type 0 where
+  pub written_before : Option Bytes
+  pub written_now : Option Bytes
+  pub faults_before : ℕ
+  pub faults_now : ℕ
+
+abbrev pub sink_side : Option Bytes → Option Bytes → ℕ → ℕ → SinkSide
+sink_side old new before now = record { written_before = old; written_now = new; faults_before = before; faults_now = now }
+
+-- No fetch failed.
+abbrev pub IsUnfailed : ReadSide → Type 0
+IsUnfailed r = r.faults_now ≡ r.faults_before
+
+-- The fetch of the file of this name failed.
+pub record IsUnread (r : ReadSide) (name : Bytes) : Type 0 where
+  pub rose : Rose r.faults_before r.faults_now
+  pub failed : r.failed_now ≡ Some name
+
+-- Nothing was put, and no put failed: the files are as before.
+pub record IsKept (w : WriteSide) : Type 0 where
+  pub files : w.files_now ≡ w.files_before
+  pub faults : w.faults_now ≡ w.faults_before
+  pub failed : w.failed_now ≡ w.failed_before
+
+-- The file of this name holds these bytes, every other file is as before, and no put failed.
+pub record HasPut (w : WriteSide) (name bytes : Bytes) : Type 0 where
+  pub files : w.files_now ≡ option_map (λ files. insert files name bytes) w.files_before
+  pub faults : w.faults_now ≡ w.faults_before
+  pub failed : w.failed_now ≡ w.failed_before
+
+-- The put of the file of this name failed, and every other file is as before.
+pub record IsUnput (w : WriteSide) (name : Bytes) : Type 0 where
+  pub rose : Rose w.faults_before w.faults_now
+  pub failed : w.failed_now ≡ Some name
+  pub others : PutsOthers w.files_before w.files_now name

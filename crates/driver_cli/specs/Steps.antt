@@ -1,0 +1,86 @@
+-- What the steps of a command give.
+use Rattle.std.specs.Prelude.{◌≡◌, ◌⊎◌, ℕ, List, Result, Ok, Err, ⊤}
+use Rattle.duty_core.specs.declared.activity.Activity.{Activity}
+use Rattle.duty_core.specs.declared.memory.NoMemory.{NoMemory}
+use Rattle.tour_model.specs.declared.tour.Tour.{Tour}
+use Rattle.tour_plan.specs.Planned.{IsLawfulLog, IsSpent}
+use Rattle.outside.specs.Outside.{Bytes}
+use Rattle.driver_cli.specs.declared.answer.Answer.{Answer}
+use Rattle.driver_cli.specs.declared.answer.Halt.{Halt}
+use Rattle.driver_cli.specs.declared.answer.Halt.TheVariants as halt
+use Rattle.driver_cli.specs.declared.answer.Status.{Status}
+use Rattle.driver_cli.specs.declared.answer.Status.TheVariants.{Done, Infeasible, LogUnlawful, Spent, WriteFault}
+use Rattle.driver_cli.specs.declared.command.Command.{Command}
+use Rattle.driver_cli.specs.declared.command.Command.TheVariants.{Plan, Check, Audit}
+use Rattle.driver_cli.specs.declared.plan.Proposal.{Proposal}
+use Rattle.driver_cli.specs.Answers.{UsageAnswers, AuditAnswers, CheckAnswers, IsShortestProof, IsInfeasibleProof, PlanAnswers, PlanLeaves}
+use Rattle.driver_cli.specs.Command.{IsSentence, IsNoSentence}
+use Rattle.driver_cli.specs.Inputs.{IsUnlawful}
+use Rattle.driver_cli.specs.Sides.{ReadSide, WriteSide, IsKept, HasPut, IsUnput}
+use Rattle.driver_cli.specs.Texts.{spent_text, write_fault_text}
+
+-- The end of a command is an answer of this table; or memory was wanting, and this holds.
+abbrev pub Concludes : Result Answer Halt → (Status → Bytes → Type 0) → Type 0 → Type 0
+Concludes (Ok a) answers memory = answers a.status a.text
+Concludes (Err (halt.Answered a)) answers memory = answers a.status a.text
+Concludes (Err halt.Memory) answers memory = memory
+
+-- The answer with which a command ended, early or not; none where memory was wanting.
+abbrev pub Settles : Result Answer Halt → Result Answer NoMemory → Type 0
+Settles (Ok a) settled = settled ≡ Ok a
+Settles (Err (halt.Answered a)) settled = settled ≡ Ok a
+Settles (Err halt.Memory) settled = (none : NoMemory) × (settled ≡ Err none)
+
+-- The log is lawful; or the answer tells where not.
+abbrev pub IsLawfulOr : Tour → List Activity → Result Unit Halt → Type 0
+IsLawfulOr tour log (Ok done) = IsLawfulLog tour log
+IsLawfulOr tour log (Err (halt.Answered a)) = (a.status ≡ LogUnlawful) × IsUnlawful tour log a.text
+IsLawfulOr tour log (Err halt.Memory) = ⊤
+
+-- what is answered with a certificate of these bytes
+abbrev pub Proves : Tour → List Activity → Bytes → Status → Bytes → Type 0
+Proves tour log bytes Done text = IsShortestProof tour log bytes text
+Proves tour log bytes Infeasible text = IsInfeasibleProof tour log bytes text
+Proves tour log bytes status text = ⊥
+
+-- what is answered without one
+abbrev pub Declines : Tour → List Activity → ℕ → Status → Bytes → Type 0
+Declines tour log budget Spent text = IsLawfulLog tour log × IsSpent tour log budget × (text ≡ spent_text budget)
+Declines tour log budget LogUnlawful text = IsUnlawful tour log text
+Declines tour log budget status text = ⊥
+
+-- The log is lawful, and the answer has a certificate; or it has none.
+abbrev pub IsProposed : Tour → List Activity → ℕ → Result Proposal Halt → Type 0
+IsProposed tour log budget (Ok p) = IsLawfulLog tour log × Proves tour log p.cert.items p.answer.status p.answer.text
+IsProposed tour log budget (Err (halt.Answered a)) = Declines tour log budget a.status a.text
+IsProposed tour log budget (Err halt.Memory) = ⊤
+
+-- The certificate was put; or the put failed, and that is answered; or memory was wanting, before or behind such a failure.
+abbrev pub IsCertPut : Bytes → Bytes → WriteSide → Result Unit Halt → Type 0
+IsCertPut name bytes w (Ok done) = HasPut w name bytes
+IsCertPut name bytes w (Err (halt.Answered a)) = IsUnput w name × (a.status ≡ WriteFault) × (a.text ≡ write_fault_text name)
+IsCertPut name bytes w (Err halt.Memory) = IsKept w ⊎ IsUnput w name
+
+-- ---- all commands
+
+-- what a command answers
+abbrev pub CommandAnswers : Command → ReadSide → WriteSide → Status → Bytes → Type 0
+CommandAnswers (Plan tour log cert budget) r w status text = PlanAnswers tour log cert budget r w status text
+CommandAnswers (Check tour log cert) r w status text = IsKept w × CheckAnswers tour log cert r status text
+CommandAnswers (Audit tour log) r w status text = IsKept w × AuditAnswers tour log r status text
+
+-- what a command leaves where memory is wanting
+abbrev pub CommandLeaves : Command → ReadSide → WriteSide → Type 0
+CommandLeaves (Plan tour log cert budget) r w = PlanLeaves tour log cert r w
+CommandLeaves (Check tour log cert) r w = IsKept w
+CommandLeaves (Audit tour log) r w = IsKept w
+
+-- The words are no sentence; or they are one of this command, which answers so.
+abbrev pub WordsAnswers : List Bytes → ReadSide → WriteSide → Status → Bytes → Type 0
+WordsAnswers words r w status text =
+    (IsNoSentence words × IsKept w × UsageAnswers status text)
+    ⊎ ((command : Command) × IsSentence words command × CommandAnswers command r w status text)
+
+-- what is left where memory is wanting: all as it was, or what such a command leaves
+abbrev pub WordsLeave : List Bytes → ReadSide → WriteSide → Type 0
+WordsLeave words r w = IsKept w ⊎ ((command : Command) × IsSentence words command × CommandLeaves command r w)

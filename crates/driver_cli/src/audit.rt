@@ -1,0 +1,69 @@
+//! Whether the log of a tour is lawful.
+ghost use Rattle.std.specs.Prelude.{◌≡◌, ◌*◌, ◌+◌, ◌≤◌, ◌<◌, length, IfOk, ⊤};
+ghost use Rattle.duty_core.specs.Params.{unit_minutes};
+ghost use Rattle.duty_core.specs.declared.limits.TheConstants.{LONGEST_LOG};
+ghost use Rattle.rule_core.specs.Replay.{IsFirstUnlawful};
+ghost use Rattle.tour_model.specs.Schedule.{log_start};
+ghost use Rattle.tour_model.specs.Tour.{IsTour};
+ghost use Rattle.driver_cli.specs.Inputs.{IsUnlawful};
+ghost use Rattle.driver_cli.specs.Sides.{read_side};
+ghost use Rattle.driver_cli.specs.Answers.{AuditAnswers};
+ghost use Rattle.driver_cli.specs.Steps.{Concludes, IsLawfulOr};
+
+use crate::answer::{Answer, Halt, Status};
+use crate::fetch::{Inputs, fetch_inputs};
+use crate::texts::unlawful_text;
+use duty_core::{Minute, NoMemory, unit_of};
+use outside::{Desk, Word};
+use std::alloc::Global;
+use timeline::Timeline;
+use tour_model::Tour;
+use tour_plan::first_unlawful;
+
+/// The civil minute at which a log begins that ends where the tour starts.
+fn log_start(tour: &Tour, log: &Timeline) -> Minute
+    requires tour { IsTour tour.now }
+    requires short { unit_minutes tour.now.params * length log.now ≤ LONGEST_LOG }
+    ensures value { result ≡ log_start tour.now log.now }
+    ensures ends { result + unit_minutes tour.now.params * length log.now ≡ tour.now.start }
+{
+    tour.start - unit_of(tour.params) * log.len()
+}
+
+/// The answer to a log that breaks a rule in this unit and in none before it.
+pub fn unlawful(alloc: Global, inputs: &Inputs, unit: u32) -> Result<Answer, NoMemory>
+    requires tour { IsTour inputs.now.tour }
+    requires short { unit_minutes inputs.now.tour.params * length inputs.now.log ≤ LONGEST_LOG }
+    requires unit { IsFirstUnlawful inputs.now.tour.params (log_start inputs.now.tour inputs.now.log) inputs.now.log unit }
+    ensures { IfOk result (λ answer. (answer.status ≡ Status.LogUnlawful) × IsUnlawful inputs.now.tour inputs.now.log answer.text) }
+{
+    let at = log_start(&inputs.tour, &inputs.log) + unit_of(inputs.tour.params) * unit;
+    Ok(Answer {
+        status: Status::LogUnlawful,
+        text: unlawful_text(alloc, at)?,
+    })
+}
+
+/// Nothing where the log is lawful. Answered as `LogUnlawful` where it breaks a rule.
+pub fn require_lawful(alloc: Global, inputs: &Inputs) -> Result<(), Halt>
+    requires tour { IsTour inputs.now.tour }
+    requires short { unit_minutes inputs.now.tour.params * length inputs.now.log ≤ LONGEST_LOG }
+    ensures { IsLawfulOr inputs.now.tour inputs.now.log result }
+{
+    match first_unlawful(alloc, &inputs.tour, &inputs.log)? {
+        None => Ok(()),
+        Some(unit) => Err(Halt::Answered(unlawful(alloc, inputs, unit)?)),
+    }
+}
+
+/// Says whether the log is lawful, behind the refusals of the two files.
+pub fn audit<D: Desk>(alloc: Global, tour: &Word, log: &Word, desk: &mut D) -> Result<Answer, Halt>
+    ensures files { D.files desk.new ≡ D.files desk.old }
+    ensures write_faults { D.write_faults desk.new ≡ D.write_faults desk.old }
+    ensures write_failed { D.write_failed desk.new ≡ D.write_failed desk.old }
+    ensures answer { Concludes result (AuditAnswers tour.now log.now (read_side (D.files desk.old) (D.read_faults desk.old) (D.read_faults desk.new) (D.read_failed desk.new))) ⊤ }
+{
+    let inputs = fetch_inputs(alloc, tour, log, desk)?;
+    require_lawful(alloc, &inputs)?;
+    Ok(Answer::of(alloc, Status::Done, "lawful\n")?)
+}
