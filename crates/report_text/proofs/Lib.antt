@@ -1,0 +1,6 @@
+mod Departure
+mod RunLines
+mod MarkTimes
+mod Placed
+mod Histories
+mod Drawn
