@@ -1,0 +1,4 @@
+pub mod Known
+pub mod Sentences
+pub mod PlainForms
+pub mod Forms

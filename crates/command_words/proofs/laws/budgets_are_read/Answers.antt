@@ -1,0 +1,11 @@
+use Rattle.command_words.proofs.Forms.{budget_behind, budget_before, budget_joined}
+use Rattle.command_words.proofs.laws.budgets_are_read.Goals as goal
+
+pub returns-clause-behind : goal.returns-clause-behind
+returns-clause-behind c = budget_behind
+
+pub returns-clause-before : goal.returns-clause-before
+returns-clause-before c = budget_before
+
+pub returns-clause-joined : goal.returns-clause-joined
+returns-clause-joined c = budget_joined

@@ -1,0 +1,93 @@
+//! What `clap` is told of each command.
+ghost use Rattle.std.specs.Prelude.{◌≡◌, [], false, codes, IfOk};
+ghost use Rattle.command_words.specs.declared.command.TheConstants.{MOST_MADE};
+ghost use Rattle.clap.specs.Words.{app_of, rule_of, with_rule};
+ghost use Rattle.command_words.specs.Calls.{place, number_place, budget_option, call, plan_call, check_call, audit_call, graph_call, make_call};
+
+use crate::command::MOST_MADE;
+use clap::{Arg, ArgAction, Command, value_parser};
+use label_search::MOST_BUDGET;
+use std::alloc::{AllocError, Global};
+
+/// A word that has to be there, in its place.
+fn place<'a>(alloc: Global, id: &'a str) -> Arg<'a>
+    ensures rule { rule_of result ≡ place id.now }
+    ensures own { result.global ≡ false }
+{
+    Arg::new(alloc, id).required(true).action(ArgAction::Set)
+}
+
+/// The number of a made tour. It is read as a `u64`, since `clap` reads a `u32` by way of an `i64`,
+/// and so takes `-0`.
+fn number_place<'a>(alloc: Global) -> Arg<'a>
+    ensures rule { rule_of result ≡ number_place (codes "number") MOST_MADE }
+    ensures own { result.global ≡ false }
+{
+    place(alloc, "number").value_parser(value_parser!(u64).range(0..=i64::from(MOST_MADE)))
+}
+
+/// `--budget` with one value.
+fn budget_option<'a>(alloc: Global) -> Arg<'a>
+    ensures rule { rule_of result ≡ budget_option }
+    ensures own { result.global ≡ false }
+{
+    Arg::new(alloc, "budget")
+        .long("budget")
+        .action(ArgAction::Set)
+        .value_parser(value_parser!(u64).range(1..=i64::from(MOST_BUDGET)))
+        .default_value("200000")
+}
+
+/// A command of this name, with no arguments, and with no flag for help or a version.
+fn call<'a>(alloc: Global, name: &'a str) -> Command<'a>
+    ensures { app_of result ≡ call name.now [] }
+{
+    Command::new(alloc, name)
+        .disable_help_flag(true)
+        .disable_version_flag(true)
+}
+
+/// The call with the names of a tour's and a log's file.
+fn with_names<'a>(alloc: Global, call: Command<'a>) -> Result<Command<'a>, AllocError>
+    ensures { IfOk result (λ named. app_of named ≡ with_rule (with_rule (app_of call.entry) (place (codes "tour"))) (place (codes "log"))) }
+{
+    call.arg(place(alloc, "tour"))?.arg(place(alloc, "log"))
+}
+
+/// What `plan` is told by.
+pub(crate) fn plan_call<'a>(alloc: Global) -> Result<Command<'a>, AllocError>
+    ensures { IfOk result (λ call. app_of call ≡ plan_call) }
+{
+    with_names(alloc, call(alloc, "plan"))?
+        .arg(place(alloc, "cert"))?
+        .arg(budget_option(alloc))
+}
+
+/// What `check` is told by.
+pub(crate) fn check_call<'a>(alloc: Global) -> Result<Command<'a>, AllocError>
+    ensures { IfOk result (λ call. app_of call ≡ check_call) }
+{
+    with_names(alloc, call(alloc, "check"))?.arg(place(alloc, "cert"))
+}
+
+/// What `audit` is told by.
+pub(crate) fn audit_call<'a>(alloc: Global) -> Result<Command<'a>, AllocError>
+    ensures { IfOk result (λ call. app_of call ≡ audit_call) }
+{
+    with_names(alloc, call(alloc, "audit"))
+}
+
+/// What `graph` is told by.
+pub(crate) fn graph_call<'a>(alloc: Global) -> Result<Command<'a>, AllocError>
+    ensures { IfOk result (λ call. app_of call ≡ graph_call) }
+{
+    with_names(alloc, call(alloc, "graph"))
+}
+
+/// What `make` is told by.
+pub(crate) fn make_call<'a>(alloc: Global) -> Result<Command<'a>, AllocError>
+    ensures { IfOk result (λ call. app_of call ≡ make_call) }
+{
+    let numbered = call(alloc, "make").arg(number_place(alloc))?;
+    with_names(alloc, numbered)
+}

@@ -1,0 +1,17 @@
+//! The words of a call of the planner: which command they ask for.
+//!
+//! The first word names the command, and `clap` reads the words behind it.
+#![tactic(auto)]
+
+mod calls;
+mod command;
+mod laws;
+mod matched;
+#[cfg(test)]
+mod tests;
+
+pub use command::{BUDGET, Command, MOST_MADE, command_of};
+pub use laws::{
+    any_names_stand_behind_two_hyphens, budgets_are_read, plain_forms_are_sentences,
+    words_ask_for_one_command,
+};
