@@ -1,7 +1,7 @@
 //! Calls of the planner over a desk and a sink in memory.
 use driver_cli::{Status, drive_tool};
 use duty_core::NoMemory;
-use outside::{MemoryDesk, MemorySink, Word};
+use outside::{Desk, MemoryDesk, MemorySink, Word};
 use std::alloc::Global;
 
 pub(crate) const PLAN: [&str; 4] = ["plan", "tour.json", "log.csv", "plan.cert"];
@@ -9,6 +9,8 @@ pub(crate) const PLAN: [&str; 4] = ["plan", "tour.json", "log.csv", "plan.cert"]
 pub(crate) const CHECK: [&str; 4] = ["check", "tour.json", "log.csv", "plan.cert"];
 
 pub(crate) const AUDIT: [&str; 3] = ["audit", "tour.json", "log.csv"];
+
+pub(crate) const GRAPH: [&str; 3] = ["graph", "tour.json", "log.csv"];
 
 /// A rested driver's log.
 pub(crate) const RESTED: &str = "from,to,status\n";
@@ -69,6 +71,20 @@ fn desk_of(alloc: Global, given: Given) -> Result<MemoryDesk, NoMemory> {
     Ok(desk)
 }
 
+/// How a call with these words ends, over this desk and this sink.
+pub(crate) fn drive<D: Desk>(
+    alloc: Global,
+    words: &[&str],
+    desk: &mut D,
+    out: &mut MemorySink,
+) -> Result<Status, NoMemory> {
+    let mut named = Vec::new(alloc);
+    for word in words {
+        named.push(Word::new(alloc, word)?)?;
+    }
+    Ok(drive_tool(alloc, &named, desk, out))
+}
+
 /// What the call does.
 pub(crate) fn call(alloc: Global, given: Given) -> Result<Outcome, NoMemory> {
     let mut desk = desk_of(alloc, given)?;
@@ -76,11 +92,7 @@ pub(crate) fn call(alloc: Global, given: Given) -> Result<Outcome, NoMemory> {
     if let Some(prefix) = given.failing_send {
         out.fail_send(1, prefix)?;
     }
-    let mut words = Vec::new(alloc);
-    for word in given.words {
-        words.push(Word::new(alloc, word)?)?;
-    }
-    let status = drive_tool(alloc, &words, &mut desk, &mut out);
+    let status = drive(alloc, given.words, &mut desk, &mut out)?;
     let cert = match desk.file(&Word::new(alloc, "plan.cert")?) {
         Some(bytes) => Some(bytes.to_vec(alloc)?),
         None => None,

@@ -9,6 +9,8 @@ mod calls;
 #[cfg(test)]
 mod certificates;
 #[cfg(test)]
+mod makes;
+#[cfg(test)]
 mod tests;
 #[cfg(test)]
 mod worked_tours;

@@ -6,7 +6,7 @@ use std::alloc::Global;
 use std::test::Fail;
 
 const USAGE: &str =
-    "usage: driver plan TOUR LOG CERT [--budget N]\n       driver check TOUR LOG CERT\n       driver audit TOUR LOG\n";
+    "usage: driver plan TOUR LOG CERT [--budget N]\n       driver check TOUR LOG CERT\n       driver audit TOUR LOG\n       driver graph TOUR LOG\n       driver make N TOUR LOG\n";
 
 #[test]
 fn answers_words_and_faults(rt: HostRuntime) -> Result<(), Fail> {
@@ -268,8 +268,9 @@ fn spends_a_small_budget(rt: HostRuntime) -> Result<(), Fail> {
         ("500000", Status::Done, "shortest 22:00 from "),
         ("0", Status::Usage, USAGE),
         ("500001", Status::Usage, USAGE),
-        ("03", Status::Usage, USAGE),
-        ("+3", Status::Usage, USAGE),
+        ("03", Status::Spent, "spent 3\n"),
+        ("+3", Status::Spent, "spent 3\n"),
+        ("-3", Status::Usage, USAGE),
         ("", Status::Usage, USAGE),
     ];
     for (budget, status, text) in cases {
@@ -284,6 +285,58 @@ fn spends_a_small_budget(rt: HostRuntime) -> Result<(), Fail> {
         let told = call(alloc, Given::new(&words, tour.as_str(), RESTED))?;
         assert_eq!(rt; told.status, status, "where {text} is sent");
         assert!(rt; told.sent.as_slice().starts_with(text.as_bytes()));
+    }
+    Ok(())
+}
+
+#[test]
+fn reads_options_as_they_are_given(rt: HostRuntime) -> Result<(), Fail> {
+    let alloc = rt.alloc();
+    let stop = stop(alloc, 690, 30, "2026-03-02T06:00", "2026-03-03T03:30")?;
+    let tour = tour_of(alloc, US, stop.as_str())?;
+    let spent = "spent 3\n";
+    let cases: [(&[&str], &str); 8] = [
+        (
+            &["plan", "tour.json", "log.csv", "plan.cert", "--budget=3"],
+            spent,
+        ),
+        (
+            &["plan", "--budget", "3", "tour.json", "log.csv", "plan.cert"],
+            spent,
+        ),
+        (
+            &[
+                "plan",
+                "--budget=3",
+                "--",
+                "tour.json",
+                "log.csv",
+                "plan.cert",
+            ],
+            spent,
+        ),
+        (
+            &[
+                "plan",
+                "tour.json",
+                "log.csv",
+                "plan.cert",
+                "--budget=3",
+                "--budget=3",
+            ],
+            USAGE,
+        ),
+        (
+            &["plan", "tour.json", "log.csv", "plan.cert", "--help"],
+            USAGE,
+        ),
+        (&["plan", "tour.json", "log.csv", "-cert"], USAGE),
+        (&["make", "1000000", "tour.json", "log.csv"], USAGE),
+        (&["audit", "tour.json", "--", "log.csv"], "lawful\n"),
+    ];
+    for (words, text) in cases {
+        let told = call(alloc, Given::new(words, tour.as_str(), RESTED))?;
+        assert_eq!(rt; told.sent.as_slice(), text.as_bytes());
     }
     Ok(())
 }

@@ -234,7 +234,7 @@ fn begins_the_week_anew_after_a_restart(rt: HostRuntime) -> Result<(), Fail> {
 }
 
 /// Nine hours of service on each of five days, and rest between and up to the start.
-const WORKING_WEEK: &str = "from,to,status
+pub(crate) const WORKING_WEEK: &str = "from,to,status
 2026-02-23T08:00,2026-02-23T17:00,ON
 2026-02-23T17:00,2026-02-24T08:00,OFF
 2026-02-24T08:00,2026-02-24T17:00,ON

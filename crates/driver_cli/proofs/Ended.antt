@@ -10,18 +10,22 @@ use Rattle.std.specs.Option.{option_map}
 use Rattle.outside.specs.Outside.{Bytes, Files, Rose, PutsOthers}
 use Rattle.driver_cli.specs.declared.answer.Status.{Status}
 use Rattle.driver_cli.specs.declared.answer.Status.TheVariants.{Done, Usage, Refused, Infeasible, LogUnlawful, Spent, ReadFault, WriteFault, Memory, Rejected}
-use Rattle.driver_cli.specs.declared.command.Command.{Command}
-use Rattle.driver_cli.specs.declared.command.Command.TheVariants.{Plan, Check, Audit}
-use Rattle.driver_cli.specs.Answers.{UsageAnswers, AuditAnswers, CheckAnswers, PlanAnswers, PlanLeaves}
-use Rattle.driver_cli.specs.Command.{IsSentence, IsNoSentence}
-use Rattle.driver_cli.specs.Ends.{Told, UsageEnds, AuditEnds, CheckEnds, PlanEnds, Ends}
+use Rattle.command_words.specs.declared.command.Command.{Command}
+use Rattle.command_words.specs.declared.command.Command.TheVariants.{Plan, Check, Audit, Graph, Make}
+use Rattle.command_words.specs.Command.{IsSentence, IsNoSentence}
+use Rattle.command_words.proofs.Sentences.{one_command}
+use Rattle.report_text.specs.Made.{tour_made, log_made}
+use Rattle.made_tours.proofs.MadeIs.{made_is}
+use Rattle.driver_cli.specs.Answers.{UsageAnswers, AuditAnswers, GraphAnswers, CheckAnswers, PlanAnswers, PlanLeaves}
+use Rattle.driver_cli.specs.Ends.{Told, UsageEnds, AuditEnds, GraphEnds, CheckEnds, MakeEnds, PlanEnds, Ends}
 use Rattle.driver_cli.specs.Inputs.{LawfulAnswers}
+use Rattle.driver_cli.specs.Make.{MakeAnswers, MakeLeaves}
 use Rattle.driver_cli.specs.Sent.{IsSent, IsUnsent, Sent}
-use Rattle.driver_cli.specs.Sides.{ReadSide, WriteSide, SinkSide, IsKept, HasPut}
+use Rattle.driver_cli.specs.Sides.{ReadSide, WriteSide, SinkSide, IsKept, HasPut, HavePut, IsUnput, IsUnputBehind, PutsOtherTwo}
 use Rattle.driver_cli.specs.Steps.{CommandAnswers, CommandLeaves, WordsAnswers, WordsLeave}
-use Rattle.driver_cli.proofs.Stages.{audit_stage, check_stage, plan_stage}
-use Rattle.driver_cli.proofs.Exactly.{audit_exact, audit_complete, check_exact, check_complete, plan_exact, plan_complete}
-use Rattle.driver_cli.proofs.Sentences.{same_command}
+use Rattle.driver_cli.proofs.Stages.{audit_stage, graph_stage, check_stage, plan_stage}
+use Rattle.driver_cli.proofs.Exactly.{audit_exact, audit_complete, graph_exact, graph_complete, check_exact, check_complete, plan_exact, plan_complete}
+use Rattle.driver_cli.proofs.Making.{make_stage, make_exact, make_complete}
 
 -- ---- sending
 
@@ -88,6 +92,50 @@ module _ (t l c : Bytes) (budget : ℕ) (r : ReadSide) (w : WriteSide) where
   plan_leaves Rejected text h = inl h.0
   plan_leaves Memory text h = inl h.0
 
+-- ---- two files that are put
+
+-- what stays where one file may change, and then another
+two_others : (files files' files2 : Option Files) (a b : Bytes) → PutsOthers files files' a → PutsOthers files' files2 b → PutsOtherTwo files files2 a b
+two_others None files' files2 a b p q = tt
+two_others (Some files) None files2 a b p q = absurd p
+two_others (Some files) (Some now) None a b p q = absurd q
+two_others (Some files) (Some now) (Some later) a b p q = λ other x y. q other y ∙ p other x
+
+puts_two : (files : Option Files) (a x b y : Bytes) → PutsOtherTwo files (option_map (λ files. insert (insert files a x) b y) files) a b
+puts_two None a x b y = tt
+puts_two (Some files) a x b y = λ other p q. insert_others (insert files a x) b y other q ∙ insert_others files a x other p
+
+module _ (w : WriteSide) (t l : Bytes) where
+  tour_alone : PutsOthers w.files_before w.files_now t → PutsOtherTwo w.files_before w.files_now t l
+  tour_alone p = two_others w.files_before w.files_now w.files_now t l p (same_others w.files_now l)
+
+  both_others : (a b : Bytes) → HavePut w t a l b → PutsOtherTwo w.files_before w.files_now t l
+  both_others a b h = subst (λ now. PutsOtherTwo w.files_before now t l) (sym h.files) (puts_two w.files_before t a l b)
+
+  behind_others : (a : Bytes) → IsUnputBehind w t a l → PutsOtherTwo w.files_before w.files_now t l
+  behind_others a h = two_others w.files_before (option_map (λ files. insert files t a) w.files_before) w.files_now t l (put_others w.files_before t a) h.others
+
+  make_others : (number : ℕ) → MakeLeaves number t l w → PutsOtherTwo w.files_before w.files_now t l
+  make_others number (inl k) = tour_alone (kept_others w t k)
+  make_others number (inr (inl h)) = tour_alone (has_put_others w t (tour_made number) h)
+  make_others number (inr (inr (inl h))) = both_others (tour_made number) log_made h
+  make_others number (inr (inr (inr (inl h)))) = tour_alone h.others
+  make_others number (inr (inr (inr (inr h)))) = behind_others (tour_made number) h
+
+  -- what an answer of `make` leaves
+  make_leaves : (number : ℕ) (status : Status) (text : Bytes) → MakeAnswers number t l w status text → MakeLeaves number t l w
+  make_leaves number Done text h = inr (inr (inl h.put))
+  make_leaves number Infeasible text h = inr (inr (inl h.put))
+  make_leaves number Spent text h = inr (inr (inl h.put))
+  make_leaves number WriteFault text (inl h) = inr (inr (inr (inl h.0)))
+  make_leaves number WriteFault text (inr h) = inr (inr (inr (inr h.0)))
+  make_leaves number Usage text h = absurd h
+  make_leaves number Refused text h = absurd h
+  make_leaves number LogUnlawful text h = absurd h
+  make_leaves number ReadFault text h = absurd h
+  make_leaves number Memory text h = absurd h
+  make_leaves number Rejected text h = absurd h
+
 -- ---- where nothing fails outside
 
 module _ (answers : Status → Bytes → Type 0) (left : Type 0) (s : SinkSide) (status : Status) where
@@ -100,6 +148,10 @@ module _ (answers : Status → Bytes → Type 0) (left : Type 0) (s : SinkSide) 
 no_input_fault : (t l : Bytes) (r : ReadSide) (text : Bytes) → (Rose r.faults_before r.faults_now → ⊥) → LawfulAnswers t l r ReadFault text → ⊥
 no_input_fault t l r text calm (inl h) = calm h.unread.rose
 no_input_fault t l r text calm (inr h) = calm h.unread.rose
+
+no_make_fault : (number : ℕ) (t l : Bytes) (w : WriteSide) (text : Bytes) → (Rose w.faults_before w.faults_now → ⊥) → MakeAnswers number t l w WriteFault text → ⊥
+no_make_fault number t l w text calm (inl h) = calm h.0.rose
+no_make_fault number t l w text calm (inr h) = calm h.0.rose
 
 no_check_fault : (t l c : Bytes) (r : ReadSide) (text : Bytes) → (Rose r.faults_before r.faults_now → ⊥) → CheckAnswers t l c r ReadFault text → ⊥
 no_check_fault t l c r text calm (inl h) = no_input_fault t l r text calm h
@@ -118,6 +170,16 @@ module _ (r : ReadSide) (w : WriteSide) (s : SinkSide) (status : Status) where
         (no_write_fault (AuditAnswers t l r) ⊤ s status e (λ text h. h) ok.sends) files t l (audit_exact r files is t l status (audit_stage t l r s status e));
   }
 
+  graph_ends : (t l : Bytes) → IsKept w → Told (GraphAnswers t l r) ⊤ s status → GraphEnds t l r w s status
+  graph_ends t l kept e = record {
+    kept = kept;
+    told = e;
+    exact = λ files is. graph_exact r files is t l status (graph_stage t l r s status e);
+    complete = λ files is ok. graph_complete status
+        (no_read_fault (GraphAnswers t l r) ⊤ s status e (λ text h. no_input_fault t l r text ok.fetches h))
+        (no_write_fault (GraphAnswers t l r) ⊤ s status e (λ text h. h) ok.sends) files t l (graph_exact r files is t l status (graph_stage t l r s status e));
+  }
+
   check_ends : (t l c : Bytes) → IsKept w → Told (CheckAnswers t l c r) ⊤ s status → CheckEnds t l c r w s status
   check_ends t l c kept e = record {
     kept = kept;
@@ -126,6 +188,17 @@ module _ (r : ReadSide) (w : WriteSide) (s : SinkSide) (status : Status) where
     complete = λ files is ok. check_complete status
         (no_read_fault (CheckAnswers t l c r) ⊤ s status e (λ text h. no_check_fault t l c r text ok.fetches h))
         (no_write_fault (CheckAnswers t l c r) ⊤ s status e (λ text h. h) ok.sends) files t l c (check_exact r files is t l c status (check_stage t l c r s status e));
+  }
+
+  make_ends : (number : ℕ) (t l : Bytes) → PutsOtherTwo w.files_before w.files_now t l → Told (MakeAnswers number t l w) (MakeLeaves number t l w) s status → MakeEnds number t l r w s status
+  make_ends number t l others e = record {
+    good = made_is number;
+    others = others;
+    told = e;
+    exact = make_exact number status (make_stage number t l w s status e);
+    complete = λ ok. make_complete number status
+        (no_write_fault (MakeAnswers number t l w) (MakeLeaves number t l w) s status e (λ text h. no_make_fault number t l w text ok.puts h) ok.sends)
+        (make_exact number status (make_stage number t l w s status e));
   }
 
   plan_ends : (t l c : Bytes) (budget : ℕ) → PutsOthers w.files_before w.files_now c → Told (PlanAnswers t l c budget r w) (PlanLeaves t l c r w) s status → PlanEnds t l c budget r w s status
@@ -144,20 +217,26 @@ module _ (r : ReadSide) (w : WriteSide) (s : SinkSide) (status : Status) where
   CommandEnds (Plan t l c budget) = PlanEnds t l c budget r w s status
   CommandEnds (Check t l c) = CheckEnds t l c r w s status
   CommandEnds (Audit t l) = AuditEnds t l r w s status
+  CommandEnds (Graph t l) = GraphEnds t l r w s status
+  CommandEnds (Make number t l) = MakeEnds number t l r w s status
 
   by_command : (words : List Bytes) (command : Command) → IsSentence words command → CommandEnds command → Ends words r w s status
   by_command words command is e = record {
     usage = λ none. absurd (none command is);
-    audit = λ t l is'. subst CommandEnds (same_command words command (Audit t l) is is') e;
-    check = λ t l c is'. subst CommandEnds (same_command words command (Check t l c) is is') e;
-    plan = λ t l c budget is'. subst CommandEnds (same_command words command (Plan t l c budget) is is') e;
+    audit = λ t l is'. subst CommandEnds (one_command words command (Audit t l) is is') e;
+    graph = λ t l is'. subst CommandEnds (one_command words command (Graph t l) is is') e;
+    check = λ t l c is'. subst CommandEnds (one_command words command (Check t l c) is is') e;
+    make = λ number t l is'. subst CommandEnds (one_command words command (Make number t l) is is') e;
+    plan = λ t l c budget is'. subst CommandEnds (one_command words command (Plan t l c budget) is is') e;
   }
 
   by_usage : (words : List Bytes) → IsNoSentence words → UsageEnds w s status → Ends words r w s status
   by_usage words none e = record {
     usage = λ same. e;
     audit = λ t l is. absurd (none (Audit t l) is);
+    graph = λ t l is. absurd (none (Graph t l) is);
     check = λ t l c is. absurd (none (Check t l c) is);
+    make = λ number t l is. absurd (none (Make number t l) is);
     plan = λ t l c budget is. absurd (none (Plan t l c budget) is);
   }
 
@@ -178,7 +257,10 @@ usage_ends w s Rejected kept e = absurd e.1
 module _ (r : ReadSide) (w : WriteSide) (s : SinkSide) (status ended : Status) (text : Bytes) (sent : Sent status text s ended) where
   command_ends : (command : Command) → CommandAnswers command r w status text → CommandEnds r w s ended command
   command_ends (Audit t l) h = audit_ends r w s ended t l h.0 (told (AuditAnswers t l r) ⊤ s text status ended (λ x. x) (λ x. tt) h.1 sent)
+  command_ends (Graph t l) h = graph_ends r w s ended t l h.0 (told (GraphAnswers t l r) ⊤ s text status ended (λ x. x) (λ x. tt) h.1 sent)
   command_ends (Check t l c) h = check_ends r w s ended t l c h.0 (told (CheckAnswers t l c r) ⊤ s text status ended (λ x. x) (λ x. tt) h.1 sent)
+  command_ends (Make number t l) h = make_ends r w s ended number t l (make_others w t l number (make_leaves w t l number status text h))
+      (told (MakeAnswers number t l w) (MakeLeaves number t l w) s text status ended (λ x. x) (make_leaves w t l number status text) h sent)
   command_ends (Plan t l c budget) h = plan_ends r w s ended t l c budget (leaves_others t l c budget r w (plan_leaves t l c budget r w status text h))
       (told (PlanAnswers t l c budget r w) (PlanLeaves t l c r w) s text status ended (λ x. x.1) (plan_leaves t l c budget r w status text) h sent)
 
@@ -191,14 +273,18 @@ module _ (r : ReadSide) (w : WriteSide) (s : SinkSide) (status ended : Status) (
 module _ (r : ReadSide) (w : WriteSide) (s : SinkSide) (unsent : IsUnsent s) where
   command_memory : (command : Command) → CommandLeaves command r w → CommandEnds r w s Memory command
   command_memory (Audit t l) kept = audit_ends r w s Memory t l kept (tt, unsent)
+  command_memory (Graph t l) kept = graph_ends r w s Memory t l kept (tt, unsent)
   command_memory (Check t l c) kept = check_ends r w s Memory t l c kept (tt, unsent)
+  command_memory (Make number t l) leaves = make_ends r w s Memory number t l (make_others w t l number leaves) (leaves, unsent)
   command_memory (Plan t l c budget) leaves = plan_ends r w s Memory t l c budget (leaves_others t l c budget r w leaves) (leaves, unsent)
 
   pub memory_ends : (words : List Bytes) → WordsLeave words r w → Ends words r w s Memory
   memory_ends words (inl kept) = record {
     usage = λ none. usage_ends w s Memory kept (tt, unsent);
     audit = λ t l is. command_memory (Audit t l) kept;
+    graph = λ t l is. command_memory (Graph t l) kept;
     check = λ t l c is. command_memory (Check t l c) kept;
+    make = λ number t l is. command_memory (Make number t l) (inl kept);
     plan = λ t l c budget is. command_memory (Plan t l c budget) (inl kept);
   }
   memory_ends words (inr h) = by_command r w s Memory words h.0 h.1 (command_memory h.0 h.2)

@@ -21,8 +21,8 @@ use Rattle.driver_cli.specs.declared.answer.Status.TheVariants.{Done, Refused, I
 use Rattle.driver_cli.specs.Given.{BeginsWith, GivesTour, GivesLog}
 use Rattle.driver_cli.specs.Inputs.{AreGiven}
 use Rattle.driver_cli.specs.Sides.{ReadSide}
-use Rattle.driver_cli.specs.Exact.{HasTour, HasLog, HasLawfulLog, HasCert, IsAccepted, IsOr, IsOrMemory, InputsExact, AuditExact, AuditComplete, CheckExact, CheckComplete, PlanExact, PlanComplete}
-use Rattle.driver_cli.proofs.Stages.{IsFault, Stage, AuditBehind, CheckBehind, PlanBehind}
+use Rattle.driver_cli.specs.Exact.{HasTour, HasLog, HasLawfulLog, HasCert, IsAccepted, IsOr, IsOrMemory, FilesExact, InputsExact, AuditExact, AuditComplete, GraphExact, GraphComplete, CheckExact, CheckComplete, PlanExact, PlanComplete}
+use Rattle.driver_cli.proofs.Stages.{IsFault, Stage, Judged, GraphBehind, AuditBehind, CheckBehind, PlanBehind}
 
 -- ---- what two readings of the same files have in common
 
@@ -95,8 +95,7 @@ module _ (r : ReadSide) (files : Files) (told : r.files ≡ Some files) (t l : B
   tour_missing (inl f) missing = f
   tour_missing (inr (inl h)) missing = absurd (no_tour missing h.1)
   tour_missing (inr (inr (inl h))) missing = absurd (no_tour missing h.2)
-  tour_missing (inr (inr (inr (inl h)))) missing = absurd (no_tour missing h.2.tour_given)
-  tour_missing (inr (inr (inr (inr h)))) missing = absurd (no_tour missing h.given.tour_given)
+  tour_missing (inr (inr (inr h))) missing = absurd (no_tour missing h.given.tour_given)
 
   bad_tour : (fault : TourFault) (tour : Tour) → HasTour files t (Err fault) → GivesTour r.files t (Ok tour) → ⊥
   bad_tour fault tour h g = ok_is_no_err tour fault (sym (same_tour r.files files t (Err fault) (Ok tour) told h g))
@@ -108,15 +107,13 @@ module _ (r : ReadSide) (files : Files) (told : r.files ≡ Some files) (t l : B
   tour_refused (inl f) fault h = inr f
   tour_refused (inr (inl g)) fault h = inl g.2
   tour_refused (inr (inr (inl g))) fault h = absurd (bad_tour fault g.0 h g.2)
-  tour_refused (inr (inr (inr (inl g)))) fault h = absurd (bad_tour fault g.0 h g.2.tour_given)
-  tour_refused (inr (inr (inr (inr g)))) fault h = absurd (bad_tour fault g.tour h g.given.tour_given)
+  tour_refused (inr (inr (inr g))) fault h = absurd (bad_tour fault g.tour h g.given.tour_given)
 
   log_missing : Stage t l r behind status → (tour : Tour) → HasTour files t (Ok tour) → get files l ≡ None → IsFault status
   log_missing (inl f) tour h missing = f
   log_missing (inr (inl g)) tour h missing = absurd (good_tour tour g.0 h g.1)
   log_missing (inr (inr (inl g))) tour h missing = absurd (no_log missing g.3)
-  log_missing (inr (inr (inr (inl g)))) tour h missing = absurd (no_log missing g.2.log_given)
-  log_missing (inr (inr (inr (inr g)))) tour h missing = absurd (no_log missing g.given.log_given)
+  log_missing (inr (inr (inr g))) tour h missing = absurd (no_log missing g.given.log_given)
 
   bad_log : (tour tour' : Tour) (fault : LogFault) (log : List Activity) → HasLog files t l tour (Err fault) → AreGiven t l r tour' log → ⊥
   bad_log tour tour' fault log h g = ok_is_no_err log fault (sym (same_log r.files files t l tour (Err fault) (Ok log) told h (log_of r.files files t l tour tour' (Ok log) told h.tour_there g.tour_given g.log_given)))
@@ -128,33 +125,58 @@ module _ (r : ReadSide) (files : Files) (told : r.files ≡ Some files) (t l : B
   log_refused (inl f) tour fault h = inr f
   log_refused (inr (inl g)) tour fault h = absurd (good_tour tour g.0 h.tour_there g.1)
   log_refused (inr (inr (inl g))) tour fault h = inl g.4
-  log_refused (inr (inr (inr (inl g)))) tour fault h = absurd (bad_log tour g.0 fault g.1 h g.2)
-  log_refused (inr (inr (inr (inr g)))) tour fault h = absurd (bad_log tour g.tour fault g.log h g.given)
+  log_refused (inr (inr (inr g))) tour fault h = absurd (bad_log tour g.tour fault g.log h g.given)
 
-  unlawful : Stage t l r behind status → (tour : Tour) (log : List Activity) → HasLog files t l tour (Ok log) → (IsLawfulLog tour log → ⊥) → IsOr LogUnlawful status
-  unlawful (inl f) tour log h not = inr f
-  unlawful (inr (inl g)) tour log h not = absurd (good_tour tour g.0 h.tour_there g.1)
-  unlawful (inr (inr (inl g))) tour log h not = absurd (good_log tour g.0 log g.1 h g.2 g.3)
-  unlawful (inr (inr (inr (inl g)))) tour log h not = inl g.4
-  unlawful (inr (inr (inr (inr g)))) tour log h not = absurd (not (moved IsLawfulLog tour g.tour log g.log (same_given r files t l tour g.tour log g.log told h g.given) g.lawful))
-
-  inputs : Stage t l r behind status → InputsExact files t l status
-  inputs stage = record {
+  files_exact : Stage t l r behind status → FilesExact files t l status
+  files_exact stage = record {
     tour_missing = tour_missing stage;
     tour_refused = tour_refused stage;
     log_missing = log_missing stage;
     log_refused = log_refused stage;
-    unlawful = unlawful stage;
   }
 
+  -- behind a log that reads only a fault comes before what is told of it
+  behind_log : Stage t l r behind status → (tour : Tour) (log : List Activity) → HasLog files t l tour (Ok log) → IsFault status ⊎ behind tour log status
+  behind_log (inl f) tour log h = inl f
+  behind_log (inr (inl g)) tour log h = absurd (good_tour tour g.0 h.tour_there g.1)
+  behind_log (inr (inr (inl g))) tour log h = absurd (good_log tour g.0 log g.1 h g.2 g.3)
+  behind_log (inr (inr (inr g))) tour log h = inr (moved (λ x y. behind x y status) tour g.tour log g.log (same_given r files t l tour g.tour log g.log told h g.given) g.holds)
+
+-- ---- the log that is judged
+
+module _ (r : ReadSide) (files : Files) (told : r.files ≡ Some files) (t l : Bytes) (behind : Tour → List Activity → Status → Type 0) (status : Status) where
+  told_unlawful : (tour : Tour) (log : List Activity) → (IsLawfulLog tour log → ⊥) → IsFault status ⊎ Judged behind tour log status → IsOr LogUnlawful status
+  told_unlawful tour log never (inl f) = inr f
+  told_unlawful tour log never (inr (inl g)) = inl g.1
+  told_unlawful tour log never (inr (inr g)) = absurd (never g.0)
+
+  inputs : Stage t l r (Judged behind) status → InputsExact files t l status
+  inputs stage = record {
+    read = files_exact r files told t l (Judged behind) status stage;
+    unlawful = λ tour log h never. told_unlawful tour log never (behind_log r files told t l (Judged behind) status stage tour log h);
+  }
+
+  told_lawful : (tour : Tour) (log : List Activity) → IsLawfulLog tour log → IsFault status ⊎ Judged behind tour log status → IsFault status ⊎ behind tour log status
+  told_lawful tour log is (inl f) = inl f
+  told_lawful tour log is (inr (inl g)) = absurd (g.0 is)
+  told_lawful tour log is (inr (inr g)) = inr g.1
+
   -- behind a lawful log only a fault comes before what is told of it
-  lawful : Stage t l r behind status → (tour : Tour) (log : List Activity) → HasLawfulLog files t l tour log → IsFault status ⊎ behind tour log status
-  lawful (inl f) tour log h = inl f
-  lawful (inr (inl g)) tour log h = absurd (good_tour tour g.0 h.there.tour_there g.1)
-  lawful (inr (inr (inl g))) tour log h = absurd (good_log tour g.0 log g.1 h.there g.2 g.3)
-  lawful (inr (inr (inr (inl g)))) tour log h =
-      absurd (moved (λ x y. IsLawfulLog x y → ⊥) tour g.0 log g.1 (same_given r files t l tour g.0 log g.1 told h.there g.2) g.3 h.lawful)
-  lawful (inr (inr (inr (inr g)))) tour log h = inr (moved (λ x y. behind x y status) tour g.tour log g.log (same_given r files t l tour g.tour log g.log told h.there g.given) g.holds)
+  lawful : Stage t l r (Judged behind) status → (tour : Tour) (log : List Activity) → HasLawfulLog files t l tour log → IsFault status ⊎ behind tour log status
+  lawful stage tour log h = told_lawful tour log h.lawful (behind_log r files told t l (Judged behind) status stage tour log h.there)
+
+-- ---- `graph`
+
+module _ (r : ReadSide) (files : Files) (told : r.files ≡ Some files) (t l : Bytes) (status : Status) where
+  graph_drawn : IsFault status ⊎ (Done ≡ status) → IsOr Done status
+  graph_drawn (inl f) = inr f
+  graph_drawn (inr e) = inl e
+
+  pub graph_exact : Stage t l r GraphBehind status → GraphExact files t l status
+  graph_exact stage = record {
+    read = files_exact r files told t l GraphBehind status stage;
+    drawn = λ tour log h. graph_drawn (behind_log r files told t l GraphBehind status stage tour log h);
+  }
 
 -- ---- `audit`
 
@@ -163,7 +185,7 @@ module _ (r : ReadSide) (files : Files) (told : r.files ≡ Some files) (t l : B
   audit_lawful (inl f) = inr f
   audit_lawful (inr e) = inl e
 
-  pub audit_exact : Stage t l r AuditBehind status → AuditExact files t l status
+  pub audit_exact : Stage t l r (Judged AuditBehind) status → AuditExact files t l status
   audit_exact stage = record {
     inputs = inputs r files told t l AuditBehind status stage;
     lawful = λ tour log h. audit_lawful (lawful r files told t l AuditBehind status stage tour log h);
@@ -197,7 +219,7 @@ module _ (r : ReadSide) (files : Files) (told : r.files ≡ Some files) (t l c :
   rejected tour log bytes h never (inl f) = inr f
   rejected tour log bytes h never (inr b) = told_rejected tour log bytes h never b b.answer
 
-  pub check_exact : Stage t l r (CheckBehind c r) status → CheckExact files t l c status
+  pub check_exact : Stage t l r (Judged (CheckBehind c r)) status → CheckExact files t l c status
   check_exact stage = record {
     inputs = inputs r files told t l (CheckBehind c r) status stage;
     cert_missing = λ tour log h missing. cert_missing tour log missing (lawful r files told t l (CheckBehind c r) status stage tour log h);
@@ -232,7 +254,7 @@ module _ (r : ReadSide) (files : Files) (told : r.files ≡ Some files) (t l : B
   enough tour log few s (inr (inr (inl e))) = let z : Infeasible ≡ Spent = e.0 ∙ s in cc
   enough tour log few s (inr (inr (inr e))) = few e.1
 
-  pub plan_exact : Stage t l r (PlanBehind budget) status → PlanExact files t l budget status
+  pub plan_exact : Stage t l r (Judged (PlanBehind budget)) status → PlanExact files t l budget status
   plan_exact stage = record {
     inputs = inputs r files told t l (PlanBehind budget) status stage;
     done = λ tour log schedule h is. solved tour log schedule is (lawful r files told t l (PlanBehind budget) status stage tour log h);
@@ -259,6 +281,9 @@ module _ (status : Status) (no_read : ReadFault ≡ status → ⊥) (no_write : 
     lawful = λ tour log h. only Done (e.lawful tour log h);
     unlawful = λ tour log h not. only LogUnlawful (e.inputs.unlawful tour log h not);
   }
+
+  pub graph_complete : (files : Files) (t l : Bytes) → GraphExact files t l status → GraphComplete files t l status
+  graph_complete files t l e = record { drawn = λ tour log h. only Done (e.drawn tour log h) }
 
   pub check_complete : (files : Files) (t l c : Bytes) → CheckExact files t l c status → CheckComplete files t l c status
   check_complete files t l c e = record {

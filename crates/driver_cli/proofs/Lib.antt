@@ -1,12 +1,7 @@
-pub mod Words
-pub mod Departure
-pub mod Clock
-pub mod RunLines
 pub mod Prefixes
-pub mod Budgets
+pub mod Unlawful
 pub mod Stages
 pub mod Exactly
-pub mod Sentences
+pub mod Making
 pub mod Ended
 pub mod Stepped
-pub mod MarkForms

@@ -1,25 +1,30 @@
 -- How the steps of a command make its answer.
-use Rattle.std.specs.Prelude.{◌≡◌, ◌⊎◌, ℕ, List, Option, Result, Ok, Err, IsErrAnd, ⊤}
-use Rattle.std.proofs.Common.{inl, inr, sym, subst}
+use Rattle.std.specs.Prelude.{◌≡◌, ◌⊎◌, ℕ, List, Option, None, Some, Result, Ok, Err, IsErrAnd, ⊤, refl}
+use Rattle.std.specs.FinMap.{insert}
+use Rattle.std.specs.Option.{option_map}
+use Rattle.std.proofs.Common.{inl, inr, sym, subst, ap, ◌∙◌}
 use Rattle.duty_core.specs.declared.activity.Activity.{Activity}
 use Rattle.duty_core.specs.declared.memory.NoMemory.{NoMemory}
-use Rattle.outside.specs.Outside.{Bytes, Files}
+use Rattle.outside.specs.Outside.{Bytes, Files, Rose, PutsOthers}
 use Rattle.tour_model.specs.declared.tour.Tour.{Tour}
 use Rattle.tour_model.specs.Tour.{IsTour}
+use Rattle.report_text.specs.Made.{tour_made, log_made}
 use Rattle.tour_plan.specs.Planned.{IsLawfulLog}
 use Rattle.driver_cli.specs.declared.answer.Answer.{Answer}
-use Rattle.driver_cli.specs.declared.command.Command.{Command}
-use Rattle.driver_cli.specs.Command.{IsSentence}
+use Rattle.command_words.specs.declared.command.Command.{Command}
+use Rattle.command_words.specs.Command.{IsSentence}
 use Rattle.driver_cli.specs.declared.answer.Halt.{Halt}
 use Rattle.driver_cli.specs.declared.answer.Halt.TheVariants as halt
 use Rattle.driver_cli.specs.declared.answer.Status.{Status}
 use Rattle.driver_cli.specs.declared.answer.Status.TheVariants.{Done, Usage, Refused, Infeasible, LogUnlawful, Spent, ReadFault, WriteFault, Memory, Rejected}
-use Rattle.driver_cli.specs.Answers.{AuditAnswers, BytesAnswers, CheckAnswers, PlanAnswers, PlanLeaves}
+use Rattle.driver_cli.specs.Answers.{AuditAnswers, GraphAnswers, BytesAnswers, CheckAnswers, PlanAnswers, PlanLeaves}
 use Rattle.driver_cli.specs.Fetched.{IsFileFault, IsTourFault, IsTourFetched, IsLogFault, IsLogFetched, IsFetched, AreInputsFetched}
 use Rattle.driver_cli.specs.Given.{GivesTour, GivesLog, GivesCert}
 use Rattle.driver_cli.specs.Inputs.{AreGiven, AreRead, AreLawful, IsUnlawful, InputAnswers, LawfulAnswers}
-use Rattle.driver_cli.specs.Sides.{ReadSide, read_side, WriteSide, write_side, IsKept, HasPut, IsUnput}
-use Rattle.driver_cli.specs.Steps.{Concludes, IsLawfulOr, Proves, Declines, IsProposed, IsCertPut, CommandAnswers, CommandLeaves, WordsAnswers, WordsLeave, Settles}
+use Rattle.made_tours.specs.Drawn.{IsMade}
+use Rattle.driver_cli.specs.Make.{MakeUnput, MakeAnswers, MakeLeaves}
+use Rattle.driver_cli.specs.Sides.{ReadSide, read_side, WriteSide, write_side, IsKept, HasPut, HavePut, IsUnput, IsUnputBehind}
+use Rattle.driver_cli.specs.Steps.{Concludes, IsLawfulOr, Proves, Declines, IsProposed, IsFilePut, AreMadePut, Summarizes, CommandAnswers, CommandLeaves, WordsAnswers, WordsLeave, Settles}
 use Rattle.driver_cli.specs.Texts.{write_fault_text}
 
 -- what is known of a step behind one that changed nothing and failed no fetch
@@ -85,6 +90,24 @@ audit_halts t l r halt.Memory h = tt
 pub audit_unlawful : (t l : Bytes) (r : ReadSide) (tour : Tour) (log : List Activity) (e : Halt) → AreRead t l r tour log → IsLawfulOr tour log (Err e) → Concludes (Err e) (AuditAnswers t l r) ⊤
 audit_unlawful t l r tour log (halt.Answered a) read h = lawful_audit t l r a.status a.text (unlawful_lawful t l r tour log a.status a.text read h.0 h.1)
 audit_unlawful t l r tour log halt.Memory read h = tt
+
+-- ---- `graph`
+
+input_graph : (t l : Bytes) (r : ReadSide) (status : Status) (text : Bytes) → InputAnswers t l r status text → GraphAnswers t l r status text
+input_graph t l r Refused text h = h
+input_graph t l r ReadFault text h = h
+input_graph t l r LogUnlawful text h = absurd h
+input_graph t l r Done text h = absurd h
+input_graph t l r Usage text h = absurd h
+input_graph t l r Infeasible text h = absurd h
+input_graph t l r Spent text h = absurd h
+input_graph t l r WriteFault text h = absurd h
+input_graph t l r Memory text h = absurd h
+input_graph t l r Rejected text h = absurd h
+
+pub graph_halts : (t l : Bytes) (r : ReadSide) (e : Halt) → AreInputsFetched t l r (Err e) → Concludes (Err e) (GraphAnswers t l r) ⊤
+graph_halts t l r (halt.Answered a) h = input_graph t l r a.status a.text h
+graph_halts t l r halt.Memory h = tt
 
 -- ---- `check`
 
@@ -165,7 +188,7 @@ module _ (t l c : Bytes) (budget : ℕ) (r : ReadSide) (w : WriteSide) where
   unput : (tour : Tour) (log : List Activity) (status : Status) (text : Bytes) → AreLawful t l r tour log → IsUnput w c → status ≡ WriteFault → text ≡ write_fault_text c → PlanAnswers t l c budget r w status text
   unput tour log status text lawful h is told = rw is record { tour = tour; log = log; lawful = lawful; unput = h; told = told }
 
-  pub put_halts : (tour : Tour) (log : List Activity) (bytes : Bytes) (e : Halt) → AreLawful t l r tour log → IsCertPut c bytes w (Err e) → Concludes (Err e) (PlanAnswers t l c budget r w) (PlanLeaves t l c r w)
+  pub put_halts : (tour : Tour) (log : List Activity) (bytes : Bytes) (e : Halt) → AreLawful t l r tour log → IsFilePut c bytes w (Err e) → Concludes (Err e) (PlanAnswers t l c budget r w) (PlanLeaves t l c r w)
   put_halts tour log bytes (halt.Answered a) lawful h = unput tour log a.status a.text lawful h.0 h.1 h.2
   put_halts tour log bytes halt.Memory lawful (inl kept) = inl kept
   put_halts tour log bytes halt.Memory lawful (inr h) = inr (inr h)
@@ -181,6 +204,79 @@ module _ (t l c : Bytes) (budget : ℕ) (r : ReadSide) (w : WriteSide) where
   proved tour log bytes WriteFault text lawful h put = absurd h
   proved tour log bytes Memory text lawful h put = absurd h
   proved tour log bytes Rejected text lawful h put = absurd h
+
+-- ---- `make`
+
+-- two puts, one behind the other
+mapped_twice : (f g : Files → Files) (files : Option Files) → option_map g (option_map f files) ≡ option_map (λ x. g (f x)) files
+mapped_twice f g None = refl
+mapped_twice f g (Some files) = refl
+
+module _ (number : ℕ) (t l : Bytes) (files files' files2 : Option Files) (before before' now : ℕ) (failed failed' failed2 : Option Bytes) where
+  abbrev first_put : WriteSide
+  first_put = write_side files files' before before' failed failed'
+
+  abbrev second_put : WriteSide
+  second_put = write_side files' files2 before' now failed' failed2
+
+  abbrev both_puts : WriteSide
+  both_puts = write_side files files2 before now failed failed2
+
+  both_put : (a b : Bytes) → HasPut first_put t a → HasPut second_put l b → HavePut both_puts t a l b
+  both_put a b p q = record {
+    files = q.files ∙ ap (option_map (λ x. insert x l b)) p.files ∙ mapped_twice (λ x. insert x t a) (λ x. insert x l b) files;
+    faults = q.faults ∙ p.faults;
+    failed = q.failed ∙ p.failed;
+  }
+
+  unput_behind : (a : Bytes) → HasPut first_put t a → IsUnput second_put l → IsUnputBehind both_puts t a l
+  unput_behind a p q = record {
+    rose = subst (λ n. Rose n now) p.faults q.rose;
+    failed = q.failed;
+    others = subst (λ x. PutsOthers x files2 l) p.files q.others;
+  }
+
+  first_alone : (a : Bytes) → HasPut first_put t a → IsKept second_put → HasPut both_puts t a
+  first_alone a p q = record { files = q.files ∙ p.files; faults = q.faults ∙ p.faults; failed = q.failed ∙ p.failed }
+
+  made_halts : (end : Result Unit Halt) → HasPut first_put t (tour_made number) → IsFilePut l log_made second_put end → AreMadePut number t l both_puts end
+  made_halts (Ok done) p q = both_put (tour_made number) log_made p q
+  made_halts (Err (halt.Answered a)) p q = (q.1, inr (unput_behind (tour_made number) p q.0, q.2))
+  made_halts (Err halt.Memory) p (inl q) = inr (inl (first_alone (tour_made number) p q))
+  made_halts (Err halt.Memory) p (inr q) = inr (inr (inr (inr (unput_behind (tour_made number) p q))))
+
+  pub second_halts : (a b : Bytes) (end : Result Unit Halt) → a ≡ tour_made number → b ≡ log_made → HasPut first_put t a → IsFilePut l b second_put end → AreMadePut number t l both_puts end
+  second_halts a b end e f p q = made_halts end (subst (HasPut first_put t) e p) (subst (λ x. IsFilePut l x second_put end) f q)
+
+pub first_halts : (number : ℕ) (t l bytes : Bytes) (w : WriteSide) (e : Halt) → IsFilePut t bytes w (Err e) → AreMadePut number t l w (Err e)
+first_halts number t l bytes w (halt.Answered a) p = (p.1, inl (p.0, p.2))
+first_halts number t l bytes w halt.Memory (inl p) = inl p
+first_halts number t l bytes w halt.Memory (inr p) = inr (inr (inr (inl p)))
+
+-- what a `?` hands on of a put
+pub put_on : (number : ℕ) (t l : Bytes) (w : WriteSide) (end : Result Unit Halt) (e : Halt) → IsErrAnd end (λ x. x ≡ e) → AreMadePut number t l w (Err e) → AreMadePut number t l w end
+put_on number t l w (Ok done) e h p = absurd h
+put_on number t l w (Err x) e h p = subst (λ y. AreMadePut number t l w (Err y)) (sym h) p
+
+module _ (number : ℕ) (t l : Bytes) (w : WriteSide) where
+  not_put : (status : Status) (text : Bytes) → status ≡ WriteFault → MakeUnput number t l w text → MakeAnswers number t l w status text
+  not_put status text is h = rw is h
+
+  pub make_halts : (e : Halt) → AreMadePut number t l w (Err e) → Concludes (Err e) (MakeAnswers number t l w) (MakeLeaves number t l w)
+  make_halts (halt.Answered a) h = not_put a.status a.text h.0 h.1
+  make_halts halt.Memory h = h
+
+  pub summarized : (tour : Tour) (log : List Activity) (status : Status) (text : Bytes) → IsMade number tour log → HavePut w t (tour_made number) l log_made → Summarizes number tour log status text → MakeAnswers number t l w status text
+  summarized tour log Done text made put h = record { tour = tour; log = log; made = made; put = put; told = h }
+  summarized tour log Infeasible text made put h = record { tour = tour; log = log; made = made; put = put; told = h }
+  summarized tour log Spent text made put h = record { tour = tour; log = log; made = made; put = put; told = h }
+  summarized tour log Usage text made put h = absurd h
+  summarized tour log Refused text made put h = absurd h
+  summarized tour log LogUnlawful text made put h = absurd h
+  summarized tour log ReadFault text made put h = absurd h
+  summarized tour log WriteFault text made put h = absurd h
+  summarized tour log Memory text made put h = absurd h
+  summarized tour log Rejected text made put h = absurd h
 
 -- ---- all commands
 

@@ -3,7 +3,7 @@ use Rattle.std.specs.Prelude.{◌≡◌, ◌⊎◌, ℕ, ◌*◌, ◌≤◌, ◌
 use Rattle.duty_core.specs.declared.activity.Activity.{Activity}
 use Rattle.tour_model.specs.declared.schedule.Schedule.{Schedule}
 use Rattle.tour_model.specs.declared.tour.Tour.{Tour}
-use Rattle.tour_model.specs.Schedule.{duration, IsSolutionWith, IsShortest, IsInfeasible}
+use Rattle.tour_model.specs.Schedule.{duration, log_start, IsSolutionWith, IsShortest, IsInfeasible}
 use Rattle.cert_text.specs.declared.cert.Cert.{Cert}
 use Rattle.cert_text.specs.declared.cert.CertKind.TheVariants as kind
 use Rattle.cert_text.specs.declared.limits.TheConstants.{CERT_LIMIT}
@@ -11,13 +11,14 @@ use Rattle.cert_text.specs.Cert.{acts_of_runs}
 use Rattle.cert_checker.specs.declared.verdict.Reason.{Reason}
 use Rattle.cert_checker.specs.declared.verdict.Reason.TheVariants.{TooBig}
 use Rattle.cert_checker.specs.Checked.{IsCertificate, IsWhy}
+use Rattle.log_graph.specs.Graph.{IsGraph}
 use Rattle.tour_plan.specs.Planned.{IsLawfulLog, IsSpent}
 use Rattle.outside.specs.Outside.{Bytes}
+use Rattle.report_text.specs.Report.{IsReport}
 use Rattle.driver_cli.specs.declared.answer.Status.{Status}
 use Rattle.driver_cli.specs.declared.answer.Status.TheVariants.{Done, Usage, Infeasible, Spent, ReadFault, WriteFault, Rejected}
 use Rattle.driver_cli.specs.Given.{GivesCert}
-use Rattle.driver_cli.specs.Inputs.{AreGiven, AreLawful, LawfulAnswers}
-use Rattle.driver_cli.specs.Report.{IsReport}
+use Rattle.driver_cli.specs.Inputs.{AreGiven, AreRead, AreLawful, InputAnswers, LawfulAnswers}
 use Rattle.driver_cli.specs.Sides.{ReadSide, WriteSide, IsUnread, IsKept, HasPut, IsUnput}
 use Rattle.driver_cli.specs.Texts.{usage_text, read_fault_text, write_fault_text, lawful_text, infeasible_text, spent_text, accepted_shortest_text, accepted_infeasible_text, rejected_text}
 
@@ -39,6 +40,20 @@ pub record AuditDone (tour_name log_name : Bytes) (r : ReadSide) (text : Bytes) 
 abbrev pub AuditAnswers : Bytes → Bytes → ReadSide → Status → Bytes → Type 0
 AuditAnswers tour_name log_name r Done text = AuditDone tour_name log_name r text
 AuditAnswers tour_name log_name r status text = LawfulAnswers tour_name log_name r status text
+
+-- ---- `graph`
+
+-- Done: both files are read, and the text is the graph of the log, which begins where it begins.
+pub record GraphDone (tour_name log_name : Bytes) (r : ReadSide) (text : Bytes) : Type 0 where
+  pub tour : Tour
+  pub log : List Activity
+  pub read : AreRead tour_name log_name r tour log
+  pub told : IsGraph tour.params (log_start tour log) log text
+
+-- The log is not judged.
+abbrev pub GraphAnswers : Bytes → Bytes → ReadSide → Status → Bytes → Type 0
+GraphAnswers tour_name log_name r Done text = GraphDone tour_name log_name r text
+GraphAnswers tour_name log_name r status text = InputAnswers tour_name log_name r status text
 
 -- ---- `check`
 

@@ -4,12 +4,14 @@ use Rattle.rule_core.specs.Reach.{IsOneOf}
 use Rattle.outside.specs.Outside.{Bytes, Files, PutsOthers}
 use Rattle.driver_cli.specs.declared.answer.Status.{Status}
 use Rattle.driver_cli.specs.declared.answer.Status.TheVariants.{Usage, WriteFault, Memory}
-use Rattle.driver_cli.specs.declared.command.Command.TheVariants.{Plan, Check, Audit}
-use Rattle.driver_cli.specs.Answers.{UsageAnswers, AuditAnswers, CheckAnswers, PlanAnswers, PlanLeaves}
-use Rattle.driver_cli.specs.Command.{IsSentence, IsNoSentence}
-use Rattle.driver_cli.specs.Exact.{IsUnharmed, AuditExact, AuditComplete, CheckExact, CheckComplete, PlanExact, PlanComplete}
+use Rattle.command_words.specs.declared.command.Command.TheVariants.{Plan, Check, Audit, Graph, Make}
+use Rattle.command_words.specs.Command.{IsSentence, IsNoSentence}
+use Rattle.driver_cli.specs.Answers.{UsageAnswers, AuditAnswers, GraphAnswers, CheckAnswers, PlanAnswers, PlanLeaves}
+use Rattle.driver_cli.specs.Exact.{IsUnharmed, AuditExact, AuditComplete, GraphExact, GraphComplete, CheckExact, CheckComplete, PlanExact, PlanComplete}
+use Rattle.made_tours.specs.Drawn.{IsMade, tour_drawn, log_drawn}
+use Rattle.driver_cli.specs.Make.{MakeAnswers, MakeLeaves, MakeExact, MakeComplete}
 use Rattle.driver_cli.specs.Sent.{IsSent, IsCutOff, IsUnsent}
-use Rattle.driver_cli.specs.Sides.{ReadSide, WriteSide, SinkSide, IsKept}
+use Rattle.driver_cli.specs.Sides.{ReadSide, WriteSide, SinkSide, IsKept, PutsOtherTwo}
 
 -- How a call ends whose answers are of this table: an answer that has its cause is sent whole; or its sending failed, and some first part was appended; or memory was wanting, nothing was appended, and `left` holds.
 abbrev pub Told : (Status → Bytes → Type 0) → Type 0 → SinkSide → Status → Type 0
@@ -30,6 +32,13 @@ pub record AuditEnds (tour_name log_name : Bytes) (r : ReadSide) (w : WriteSide)
   pub exact : (files : Files) → r.files ≡ Some files → AuditExact files tour_name log_name status
   pub complete : (files : Files) → r.files ≡ Some files → IsUnharmed r w s → AuditComplete files tour_name log_name status
 
+-- `graph` of the files of these names.
+pub record GraphEnds (tour_name log_name : Bytes) (r : ReadSide) (w : WriteSide) (s : SinkSide) (status : Status) : Type 0 where
+  pub kept : IsKept w
+  pub told : Told (GraphAnswers tour_name log_name r) ⊤ s status
+  pub exact : (files : Files) → r.files ≡ Some files → GraphExact files tour_name log_name status
+  pub complete : (files : Files) → r.files ≡ Some files → IsUnharmed r w s → GraphComplete files tour_name log_name status
+
 -- `check` of the files of these names.
 pub record CheckEnds (tour_name log_name cert_name : Bytes) (r : ReadSide) (w : WriteSide) (s : SinkSide) (status : Status) : Type 0 where
   pub kept : IsKept w
@@ -44,9 +53,19 @@ pub record PlanEnds (tour_name log_name cert_name : Bytes) (budget : ℕ) (r : R
   pub exact : (files : Files) → r.files ≡ Some files → PlanExact files tour_name log_name budget status
   pub complete : (files : Files) → r.files ≡ Some files → IsUnharmed r w s → PlanComplete files tour_name log_name budget status
 
+-- `make` of this number, with files of these names. The texts of the number are of a tour and a lawful log. No file is read, and files of other names stay as they were.
+pub record MakeEnds (number : ℕ) (tour_name log_name : Bytes) (r : ReadSide) (w : WriteSide) (s : SinkSide) (status : Status) : Type 0 where
+  pub good : IsMade number (tour_drawn number) log_drawn
+  pub others : PutsOtherTwo w.files_before w.files_now tour_name log_name
+  pub told : Told (MakeAnswers number tour_name log_name w) (MakeLeaves number tour_name log_name w) s status
+  pub exact : MakeExact number status
+  pub complete : IsUnharmed r w s → MakeComplete number status
+
 -- The call does what its words ask for.
 pub record Ends (words : List Bytes) (r : ReadSide) (w : WriteSide) (s : SinkSide) (status : Status) : Type 0 where
   pub usage : IsNoSentence words → UsageEnds w s status
   pub audit : (tour log : Bytes) → IsSentence words (Audit tour log) → AuditEnds tour log r w s status
+  pub graph : (tour log : Bytes) → IsSentence words (Graph tour log) → GraphEnds tour log r w s status
   pub check : (tour log cert : Bytes) → IsSentence words (Check tour log cert) → CheckEnds tour log cert r w s status
+  pub make : (number : ℕ) (tour log : Bytes) → IsSentence words (Make number tour log) → MakeEnds number tour log r w s status
   pub plan : (tour log cert : Bytes) (budget : ℕ) → IsSentence words (Plan tour log cert budget) → PlanEnds tour log cert budget r w s status

@@ -67,13 +67,22 @@ IsOr wanted status = IsOneOf (wanted ∷ ReadFault ∷ WriteFault ∷ Memory ∷
 abbrev pub IsOrMemory : Status → Status → Type 0
 IsOrMemory wanted status = IsOneOf (wanted ∷ Memory ∷ []) status
 
--- What is wrong with the two files that each command reads is answered, the tour's first.
-pub record InputsExact (files : Files) (tour_name log_name : Bytes) (status : Status) : Type 0 where
+-- What is wrong with the two files that a command reads is answered, the tour's first.
+pub record FilesExact (files : Files) (tour_name log_name : Bytes) (status : Status) : Type 0 where
   pub tour_missing : get files tour_name ≡ None → IsOneOf (ReadFault ∷ WriteFault ∷ Memory ∷ []) status
   pub tour_refused : (fault : TourFault) → HasTour files tour_name (Err fault) → IsOr Refused status
   pub log_missing : (tour : Tour) → HasTour files tour_name (Ok tour) → get files log_name ≡ None → IsOneOf (ReadFault ∷ WriteFault ∷ Memory ∷ []) status
   pub log_refused : (tour : Tour) (fault : LogFault) → HasLog files tour_name log_name tour (Err fault) → IsOr Refused status
+
+-- So is it where the log is not lawful.
+pub record InputsExact (files : Files) (tour_name log_name : Bytes) (status : Status) : Type 0 where
+  pub read : FilesExact files tour_name log_name status
   pub unlawful : (tour : Tour) (log : List Activity) → HasLog files tour_name log_name tour (Ok log) → (IsLawfulLog tour log → ⊥) → IsOr LogUnlawful status
+
+-- The graph of a log that reads is sent by `graph`, lawful or not.
+pub record GraphExact (files : Files) (tour_name log_name : Bytes) (status : Status) : Type 0 where
+  pub read : FilesExact files tour_name log_name status
+  pub drawn : (tour : Tour) (log : List Activity) → HasLog files tour_name log_name tour (Ok log) → IsOr Done status
 
 -- A lawful log is told by `audit`.
 pub record AuditExact (files : Files) (tour_name log_name : Bytes) (status : Status) : Type 0 where
@@ -100,6 +109,10 @@ pub record PlanExact (files : Files) (tour_name log_name : Bytes) (budget : ℕ)
 pub record AuditComplete (files : Files) (tour_name log_name : Bytes) (status : Status) : Type 0 where
   pub lawful : (tour : Tour) (log : List Activity) → HasLawfulLog files tour_name log_name tour log → IsOrMemory Done status
   pub unlawful : (tour : Tour) (log : List Activity) → HasLog files tour_name log_name tour (Ok log) → (IsLawfulLog tour log → ⊥) → IsOrMemory LogUnlawful status
+
+-- `graph` sends the graph of a log that reads.
+pub record GraphComplete (files : Files) (tour_name log_name : Bytes) (status : Status) : Type 0 where
+  pub drawn : (tour : Tour) (log : List Activity) → HasLog files tour_name log_name tour (Ok log) → IsOrMemory Done status
 
 -- `check` tells a valid certificate from another.
 pub record CheckComplete (files : Files) (tour_name log_name cert_name : Bytes) (status : Status) : Type 0 where

@@ -1,20 +1,17 @@
 -- The texts of what is wrong with a tour or a log: the fault's name, and what it is about.
-use Rattle.std.specs.Prelude.{ℕ, List, [], ◌++◌, codes, map, Option, None, Some, nat_le, ◌&&◌, if◌then◌else◌}
+use Rattle.std.specs.Prelude.{ℕ, List, [], ◌++◌, codes, map, Option, None, Some}
 use Rattle.std.specs.Fmt.{decimal}
 use Rattle.tour_reader.specs.declared.fault.TourFault.{TourFault}
 use Rattle.tour_reader.specs.declared.fault.TourFault.TheVariants as tour
 use Rattle.tour_reader.specs.Fields.{key}
 use Rattle.duty_log.specs.declared.fault.LogFault.{LogFault}
 use Rattle.duty_log.specs.declared.fault.LogFault.TheVariants as log
+use Rattle.text_parts.specs.Parts.{printable}
 
 -- the number of the stop, where the fault is one of a stop
 abbrev pub stop_text : Option ℕ → List ℕ
 stop_text None = []
 stop_text (Some number) = codes " stop " ++ decimal number
-
--- a byte from 0x20 to 0x7E, and `?` for each other
-abbrev pub printable : ℕ → ℕ
-printable byte = if nat_le 0x20 byte && nat_le byte 0x7E then byte else 63
 
 -- of a fault of a tour
 abbrev pub tour_fault_text : TourFault → List ℕ

@@ -1,18 +1,21 @@
 -- The files of a tour and a log, which each command reads first, and the answers to what is wrong with them.
-use Rattle.std.specs.Prelude.{◌≡◌, ◌⊎◌, ℕ, ◌+◌, ◌*◌, List, Ok, Err}
+use Rattle.std.specs.Prelude.{◌≡◌, ◌⊎◌, ℕ, ◌+◌, ◌*◌, ◌<◌, List, [], length, take, Ok, Err}
 use Rattle.duty_core.specs.declared.activity.Activity.{Activity}
+use Rattle.duty_core.specs.declared.rule.Rule.{Rule}
 use Rattle.duty_core.specs.Params.{unit_minutes}
+use Rattle.duty_core.specs.RuleBooks.{rules_of, Keeps}
 use Rattle.rule_core.specs.Replay.{IsFirstUnlawful}
 use Rattle.tour_model.specs.declared.tour.Tour.{Tour}
 use Rattle.tour_model.specs.Schedule.{log_start}
 use Rattle.tour_reader.specs.declared.fault.TourFault.{TourFault}
 use Rattle.duty_log.specs.declared.fault.LogFault.{LogFault}
 use Rattle.outside.specs.Outside.{Bytes}
+use Rattle.rule_readings.specs.Broken.{AreBroken}
 use Rattle.tour_plan.specs.Planned.{IsLawfulLog}
 use Rattle.driver_cli.specs.declared.answer.Status.{Status}
 use Rattle.driver_cli.specs.declared.answer.Status.TheVariants.{Refused, LogUnlawful, ReadFault}
 use Rattle.driver_cli.specs.Given.{GivesTour, GivesLog}
-use Rattle.driver_cli.specs.Parts.{IsText}
+use Rattle.text_parts.specs.Parts.{IsText}
 use Rattle.driver_cli.specs.Sides.{ReadSide, IsUnfailed, IsUnread}
 use Rattle.driver_cli.specs.Texts.{read_fault_text, tour_refused_text, log_refused_text, unlawful_text}
 
@@ -63,11 +66,18 @@ pub record AreLawful (tour_name log_name : Bytes) (r : ReadSide) (tour : Tour) (
 abbrev pub log_minute : Tour → List Activity → ℕ → ℕ
 log_minute tour log unit = log_start tour log + unit_minutes tour.params * unit
 
--- LogUnlawful: the log breaks a rule, and this unit is the first at which it does.
+-- The units of the log up to this one break these rules of the book with no marks, in the book's order.
+abbrev pub AreBrokenUpTo : Tour → List Activity → ℕ → List Rule → Type 0
+AreBrokenUpTo tour log unit rules = AreBroken (Keeps tour.params (log_start tour log) (take (unit + 1) log) []) (rules_of tour.params) rules
+
+-- LogUnlawful: the log breaks a rule, this unit is the first at which it does, and these are the rules that are broken up to it: one at least.
 pub record IsUnlawful (tour : Tour) (log : List Activity) (text : Bytes) : Type 0 where
   pub unit : ℕ
   pub first : IsFirstUnlawful tour.params (log_start tour log) log unit
-  pub told : IsText (unlawful_text (log_minute tour log unit)) text
+  pub rules : List Rule
+  pub broken : AreBrokenUpTo tour log unit rules
+  pub some : 0 < length rules
+  pub told : IsText (unlawful_text (log_minute tour log unit) rules) text
 
 -- The same of a log that was read.
 pub record LogIsUnlawful (tour_name log_name : Bytes) (r : ReadSide) (text : Bytes) : Type 0 where

@@ -1,7 +1,4 @@
-pub mod Command
-pub mod Parts
 pub mod FaultText
-pub mod Report
 pub mod Texts
 pub mod Status
 pub mod Sides
@@ -10,6 +7,7 @@ pub mod Given
 pub mod Inputs
 pub mod Fetched
 pub mod Answers
+pub mod Make
 pub mod Steps
 pub mod Exact
 pub mod Ends

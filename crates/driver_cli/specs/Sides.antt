@@ -1,6 +1,6 @@
 -- What a call meets and leaves outside.
-use Rattle.std.specs.Prelude.{◌≡◌, ℕ, Option, Some}
-use Rattle.std.specs.FinMap.{insert}
+use Rattle.std.specs.Prelude.{◌≡◌, ℕ, Option, None, Some}
+use Rattle.std.specs.FinMap.{get, insert}
 use Rattle.std.specs.Option.{option_map}
 use Rattle.outside.specs.Outside.{Bytes, Files, Rose, PutsOthers}
 
@@ -56,6 +56,24 @@ pub record HasPut (w : WriteSide) (name bytes : Bytes) : Type 0 where
   pub files : w.files_now ≡ option_map (λ files. insert files name bytes) w.files_before
   pub faults : w.faults_now ≡ w.faults_before
   pub failed : w.failed_now ≡ w.failed_before
+
+-- The file of the first name was made to hold the first bytes, and then that of the second name the second ones; every other file is as before, and no put failed.
+pub record HavePut (w : WriteSide) (name bytes name2 bytes2 : Bytes) : Type 0 where
+  pub files : w.files_now ≡ option_map (λ files. insert (insert files name bytes) name2 bytes2) w.files_before
+  pub faults : w.faults_now ≡ w.faults_before
+  pub failed : w.failed_now ≡ w.failed_before
+
+-- The file of the first name was made to hold these bytes, and then the put of that of the second name failed: every file of another name than the second holds what it held in between.
+pub record IsUnputBehind (w : WriteSide) (name bytes name2 : Bytes) : Type 0 where
+  pub rose : Rose w.faults_before w.faults_now
+  pub failed : w.failed_now ≡ Some name2
+  pub others : PutsOthers (option_map (λ files. insert files name bytes) w.files_before) w.files_now name2
+
+-- All files of other names than these two stay.
+abbrev pub PutsOtherTwo : Option Files → Option Files → Bytes → Bytes → Type 0
+PutsOtherTwo None new name name2 = Unit {0}
+PutsOtherTwo (Some files) None name name2 = ⊥
+PutsOtherTwo (Some files) (Some now) name name2 = (other : Bytes) → (other ≡ name → ⊥) → (other ≡ name2 → ⊥) → get now other ≡ get files other
 
 -- The put of the file of this name failed, and every other file is as before.
 pub record IsUnput (w : WriteSide) (name : Bytes) : Type 0 where

@@ -10,13 +10,15 @@ use Rattle.driver_cli.specs.declared.answer.Halt.{Halt}
 use Rattle.driver_cli.specs.declared.answer.Halt.TheVariants as halt
 use Rattle.driver_cli.specs.declared.answer.Status.{Status}
 use Rattle.driver_cli.specs.declared.answer.Status.TheVariants.{Done, Infeasible, LogUnlawful, Spent, WriteFault}
-use Rattle.driver_cli.specs.declared.command.Command.{Command}
-use Rattle.driver_cli.specs.declared.command.Command.TheVariants.{Plan, Check, Audit}
+use Rattle.command_words.specs.declared.command.Command.{Command}
+use Rattle.command_words.specs.declared.command.Command.TheVariants.{Plan, Check, Audit, Graph, Make}
+use Rattle.command_words.specs.Command.{IsSentence, IsNoSentence}
+use Rattle.report_text.specs.Made.{tour_made, log_made}
 use Rattle.driver_cli.specs.declared.plan.Proposal.{Proposal}
-use Rattle.driver_cli.specs.Answers.{UsageAnswers, AuditAnswers, CheckAnswers, IsShortestProof, IsInfeasibleProof, PlanAnswers, PlanLeaves}
-use Rattle.driver_cli.specs.Command.{IsSentence, IsNoSentence}
+use Rattle.driver_cli.specs.Answers.{UsageAnswers, AuditAnswers, GraphAnswers, CheckAnswers, IsShortestProof, IsInfeasibleProof, PlanAnswers, PlanLeaves}
 use Rattle.driver_cli.specs.Inputs.{IsUnlawful}
-use Rattle.driver_cli.specs.Sides.{ReadSide, WriteSide, IsKept, HasPut, IsUnput}
+use Rattle.driver_cli.specs.Make.{IsMadeShortest, IsMadeInfeasible, IsMadeSpent, MakeUnput, MakeAnswers, MakeLeaves}
+use Rattle.driver_cli.specs.Sides.{ReadSide, WriteSide, IsKept, HasPut, HavePut, IsUnput}
 use Rattle.driver_cli.specs.Texts.{spent_text, write_fault_text}
 
 -- The end of a command is an answer of this table; or memory was wanting, and this holds.
@@ -55,11 +57,24 @@ IsProposed tour log budget (Ok p) = IsLawfulLog tour log × Proves tour log p.ce
 IsProposed tour log budget (Err (halt.Answered a)) = Declines tour log budget a.status a.text
 IsProposed tour log budget (Err halt.Memory) = ⊤
 
--- The certificate was put; or the put failed, and that is answered; or memory was wanting, before or behind such a failure.
-abbrev pub IsCertPut : Bytes → Bytes → WriteSide → Result Unit Halt → Type 0
-IsCertPut name bytes w (Ok done) = HasPut w name bytes
-IsCertPut name bytes w (Err (halt.Answered a)) = IsUnput w name × (a.status ≡ WriteFault) × (a.text ≡ write_fault_text name)
-IsCertPut name bytes w (Err halt.Memory) = IsKept w ⊎ IsUnput w name
+-- The file was put; or the put failed, and that is answered; or memory was wanting, before or behind such a failure.
+abbrev pub IsFilePut : Bytes → Bytes → WriteSide → Result Unit Halt → Type 0
+IsFilePut name bytes w (Ok done) = HasPut w name bytes
+IsFilePut name bytes w (Err (halt.Answered a)) = IsUnput w name × (a.status ≡ WriteFault) × (a.text ≡ write_fault_text name)
+IsFilePut name bytes w (Err halt.Memory) = IsKept w ⊎ IsUnput w name
+
+-- Both files of a made tour were put, the tour's first; or a put failed, and that is answered; or memory was wanting.
+abbrev pub AreMadePut : ℕ → Bytes → Bytes → WriteSide → Result Unit Halt → Type 0
+AreMadePut number tour_name log_name w (Ok done) = HavePut w tour_name (tour_made number) log_name log_made
+AreMadePut number tour_name log_name w (Err (halt.Answered a)) = (a.status ≡ WriteFault) × MakeUnput number tour_name log_name w a.text
+AreMadePut number tour_name log_name w (Err halt.Memory) = MakeLeaves number tour_name log_name w
+
+-- what is told of a made tour that was put
+abbrev pub Summarizes : ℕ → Tour → List Activity → Status → Bytes → Type 0
+Summarizes number tour log Done text = IsMadeShortest number tour log text
+Summarizes number tour log Infeasible text = IsMadeInfeasible number tour log text
+Summarizes number tour log Spent text = IsMadeSpent number tour log text
+Summarizes number tour log status text = ⊥
 
 -- ---- all commands
 
@@ -68,12 +83,16 @@ abbrev pub CommandAnswers : Command → ReadSide → WriteSide → Status → By
 CommandAnswers (Plan tour log cert budget) r w status text = PlanAnswers tour log cert budget r w status text
 CommandAnswers (Check tour log cert) r w status text = IsKept w × CheckAnswers tour log cert r status text
 CommandAnswers (Audit tour log) r w status text = IsKept w × AuditAnswers tour log r status text
+CommandAnswers (Graph tour log) r w status text = IsKept w × GraphAnswers tour log r status text
+CommandAnswers (Make number tour log) r w status text = MakeAnswers number tour log w status text
 
 -- what a command leaves where memory is wanting
 abbrev pub CommandLeaves : Command → ReadSide → WriteSide → Type 0
 CommandLeaves (Plan tour log cert budget) r w = PlanLeaves tour log cert r w
 CommandLeaves (Check tour log cert) r w = IsKept w
 CommandLeaves (Audit tour log) r w = IsKept w
+CommandLeaves (Graph tour log) r w = IsKept w
+CommandLeaves (Make number tour log) r w = MakeLeaves number tour log w
 
 -- The words are no sentence; or they are one of this command, which answers so.
 abbrev pub WordsAnswers : List Bytes → ReadSide → WriteSide → Status → Bytes → Type 0

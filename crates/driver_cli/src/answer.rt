@@ -5,22 +5,23 @@ ghost use Rattle.driver_cli.specs.Sent.{Sent};
 ghost use Rattle.driver_cli.specs.Sides.{sink_side};
 ghost use Rattle.driver_cli.specs.Status.{exit_code_of};
 
-use crate::text::Text;
 use duty_core::NoMemory;
 use outside::{Sink, SinkFault};
 use std::alloc::Global;
+use text_parts::Text;
 
 /// How a call of the planner ended. The numbers are the program's exit codes.
 #[derive(Clone, Copy, Debug, PartialEq, Eq)]
 pub enum Status {
-    /// `plan` put a certificate and sent a shortest schedule, `check` found a certificate valid, and
-    /// `audit` found the log lawful.
+    /// `plan` put a certificate and sent a shortest schedule, `check` found a certificate valid,
+    /// `audit` found the log lawful, `graph` sent its graph, and `make` put a tour and found a shortest
+    /// schedule.
     Done = 0,
     /// The words are no sentence.
     Usage = 1,
     /// The tour's file or the log's holds none.
     Refused = 2,
-    /// Behind the log the tour has no schedule; `plan` put a certificate of it.
+    /// Behind the log the tour has no schedule; `plan` put a certificate of that.
     Infeasible = 3,
     /// The log breaks a rule.
     LogUnlawful = 4,
@@ -28,7 +29,7 @@ pub enum Status {
     Spent = 5,
     /// A file could not be read.
     ReadFault = 6,
-    /// The certificate could not be put, or the answer could not be sent, or not all of it.
+    /// A file could not be put, or the answer could not be sent, or not all of it.
     WriteFault = 7,
     /// There was no memory for the answer, and nothing was sent.
     Memory = 8,

@@ -1,11 +1,11 @@
 //! Whether the log of a tour is lawful.
-ghost use Rattle.std.specs.Prelude.{◌≡◌, ◌*◌, ◌+◌, ◌≤◌, ◌<◌, length, IfOk, ⊤};
+ghost use Rattle.std.specs.Prelude.{◌≡◌, ◌*◌, ◌+◌, ◌≤◌, ◌<◌, [], ◌∷◌, ◌++◌, length, take, IfOk, OnOk, ⊤};
 ghost use Rattle.duty_core.specs.Params.{unit_minutes};
-ghost use Rattle.duty_core.specs.declared.limits.TheConstants.{LONGEST_LOG};
+ghost use Rattle.duty_core.specs.declared.limits.TheConstants.{LONGEST_LOG, LONGEST_HISTORY};
 ghost use Rattle.rule_core.specs.Replay.{IsFirstUnlawful};
 ghost use Rattle.tour_model.specs.Schedule.{log_start};
 ghost use Rattle.tour_model.specs.Tour.{IsTour};
-ghost use Rattle.driver_cli.specs.Inputs.{IsUnlawful};
+ghost use Rattle.driver_cli.specs.Inputs.{IsUnlawful, AreBrokenUpTo};
 ghost use Rattle.driver_cli.specs.Sides.{read_side};
 ghost use Rattle.driver_cli.specs.Answers.{AuditAnswers};
 ghost use Rattle.driver_cli.specs.Steps.{Concludes, IsLawfulOr};
@@ -13,21 +13,60 @@ ghost use Rattle.driver_cli.specs.Steps.{Concludes, IsLawfulOr};
 use crate::answer::{Answer, Halt, Status};
 use crate::fetch::{Inputs, fetch_inputs};
 use crate::texts::unlawful_text;
-use duty_core::{Minute, NoMemory, unit_of};
+use duty_core::{Activity, Marks, Minute, NoMemory, unit_of};
 use outside::{Desk, Word};
+use rule_readings::{Rules, broken};
 use std::alloc::Global;
-use timeline::Timeline;
+use timeline::{Timeline, TimelineFault};
 use tour_model::Tour;
 use tour_plan::first_unlawful;
 
 /// The civil minute at which a log begins that ends where the tour starts.
-fn log_start(tour: &Tour, log: &Timeline) -> Minute
+pub fn log_start(tour: &Tour, log: &Timeline) -> Minute
     requires tour { IsTour tour.now }
     requires short { unit_minutes tour.now.params * length log.now ≤ LONGEST_LOG }
     ensures value { result ≡ log_start tour.now log.now }
     ensures ends { result + unit_minutes tour.now.params * length log.now ≡ tour.now.start }
 {
     tour.start - unit_of(tour.params) * log.len()
+}
+
+/// Puts one unit behind a history that has room for it.
+fn append(history: &mut Timeline, act: Activity) -> Result<(), NoMemory>
+    requires { length history.old < LONGEST_HISTORY }
+    ensures { OnOk result (history.new ≡ history.old ++ act ∷ []) }
+{
+    match history.push_run(act, 1) {
+        Ok(()) => Ok(()),
+        Err(TimelineFault::Memory) => Err(NoMemory),
+        Err(TimelineFault::TooLong) => unreachable!(),
+    }
+}
+
+/// The units of the log up to this one.
+fn units_up_to(alloc: Global, log: &Timeline, unit: u32) -> Result<Timeline, NoMemory>
+    requires inside { unit < length log.now }
+    requires short { length log.now ≤ LONGEST_HISTORY }
+    ensures { IfOk result (λ units. units ≡ take (unit + 1) log.now) }
+{
+    let longest = log.len();
+    let mut units = Timeline::new(alloc);
+    for k in 0..unit + 1 {
+        append(&mut units, log.at(k))?;
+    }
+    Ok(units)
+}
+
+/// The rules that the units of the log up to this one break with no marks.
+fn broken_up_to(alloc: Global, inputs: &Inputs, unit: u32) -> Result<Rules, NoMemory>
+    requires tour { IsTour inputs.now.tour }
+    requires short { unit_minutes inputs.now.tour.params * length inputs.now.log ≤ LONGEST_LOG }
+    requires inside { unit < length inputs.now.log }
+    ensures { IfOk result (AreBrokenUpTo inputs.now.tour inputs.now.log unit) }
+{
+    let units = units_up_to(alloc, &inputs.log, unit)?;
+    let first = log_start(&inputs.tour, &inputs.log);
+    broken(alloc, inputs.tour.params, &units, first, &Marks::new(alloc))
 }
 
 /// The answer to a log that breaks a rule in this unit and in none before it.
@@ -38,9 +77,10 @@ pub fn unlawful(alloc: Global, inputs: &Inputs, unit: u32) -> Result<Answer, NoM
     ensures { IfOk result (λ answer. (answer.status ≡ Status.LogUnlawful) × IsUnlawful inputs.now.tour inputs.now.log answer.text) }
 {
     let at = log_start(&inputs.tour, &inputs.log) + unit_of(inputs.tour.params) * unit;
+    let rules = broken_up_to(alloc, inputs, unit)?;
     Ok(Answer {
         status: Status::LogUnlawful,
-        text: unlawful_text(alloc, at)?,
+        text: unlawful_text(alloc, at, rules.items())?,
     })
 }
 

@@ -3,10 +3,10 @@ ghost use Rattle.std.specs.Prelude.{◌≡◌, ◌++◌, OnOk};
 ghost use Rattle.std.specs.Fmt.{decimal};
 ghost use Rattle.driver_cli.specs.FaultText.{stop_text, tour_fault_text, log_fault_text};
 
-use crate::text::Text;
 use duty_core::NoMemory;
 use duty_log::LogFault;
 use std::alloc::Global;
+use text_parts::Text;
 use tour_reader::TourFault;
 
 /// Puts the number of a stop behind the text, where there is one.

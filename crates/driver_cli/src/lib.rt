@@ -4,14 +4,14 @@
 mod answer;
 mod audit;
 mod check;
-mod command;
 mod fault_text;
 mod fetch;
+mod graph;
+mod make;
 mod plan;
-mod report;
+mod put;
 #[cfg(test)]
 mod tests;
-mod text;
 mod texts;
 mod top;
 

@@ -6,16 +6,16 @@ ghost use Rattle.tour_model.specs.Tour.{IsTour};
 ghost use Rattle.tour_plan.specs.Planned.{IsBudget};
 ghost use Rattle.driver_cli.specs.Sides.{read_side, write_side};
 ghost use Rattle.driver_cli.specs.Answers.{PlanAnswers, PlanLeaves};
-ghost use Rattle.driver_cli.specs.Steps.{Concludes, IsProposed, IsCertPut};
-ghost use Rattle.driver_cli.specs.Texts.{write_fault_text};
+ghost use Rattle.driver_cli.specs.Steps.{Concludes, IsProposed};
 
 use crate::answer::{Answer, Halt, Status};
 use crate::audit::unlawful;
 use crate::fetch::{Inputs, fetch_inputs};
-use crate::report::report;
-use crate::texts::{spent_text, write_fault_text};
+use crate::put::put;
+use crate::texts::spent_text;
 use duty_core::NoMemory;
-use outside::{Desk, DeskFault, Word};
+use outside::{Desk, Word};
+use report_text::report;
 use std::alloc::Global;
 use tour_plan::{Planned, plan_tour};
 
@@ -55,29 +55,6 @@ fn propose(alloc: Global, inputs: &Inputs, budget: u32) -> Result<Proposal, Halt
     }
 }
 
-/// The answer where the file of that name could not be put.
-fn write_fault(alloc: Global, name: &Word) -> Result<Answer, NoMemory>
-    ensures { IfOk result (λ answer. (answer.status ≡ Status.WriteFault) × (answer.text ≡ write_fault_text name.now)) }
-{
-    Ok(Answer {
-        status: Status::WriteFault,
-        text: write_fault_text(alloc, name)?,
-    })
-}
-
-/// Makes the file of that name hold the certificate. Answered as `WriteFault` where it cannot be put.
-fn put_cert<D: Desk>(alloc: Global, name: &Word, cert: &[u8], desk: &mut D) -> Result<(), Halt>
-    ensures read_faults { D.read_faults desk.new ≡ D.read_faults desk.old }
-    ensures read_failed { D.read_failed desk.new ≡ D.read_failed desk.old }
-    ensures put { IsCertPut name.now cert.now (write_side (D.files desk.old) (D.files desk.new) (D.write_faults desk.old) (D.write_faults desk.new) (D.write_failed desk.old) (D.write_failed desk.new)) result }
-{
-    match desk.put(name, cert) {
-        Ok(()) => Ok(()),
-        Err(DeskFault::Failed) => Err(Halt::Answered(write_fault(alloc, name)?)),
-        Err(DeskFault::Memory) => Err(Halt::Memory),
-    }
-}
-
 /// Plans a tour behind a log, and puts the certificate of what is answered: a shortest schedule, or
 /// that there is none. It does so behind the refusals of the two files and of a log that breaks a rule.
 pub fn plan<D: Desk>(
@@ -95,6 +72,6 @@ pub fn plan<D: Desk>(
 {
     let inputs = fetch_inputs(alloc, tour, log, desk)?;
     let proposal = propose(alloc, &inputs, budget)?;
-    put_cert(alloc, cert, &proposal.cert, desk)?;
+    put(alloc, cert, &proposal.cert, desk)?;
     Ok(proposal.answer)
 }

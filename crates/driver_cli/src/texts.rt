@@ -1,21 +1,22 @@
 //! The texts of the answers.
-ghost use Rattle.std.specs.Prelude.{◌≡◌, ◌<◌, IfOk};
+ghost use Rattle.std.specs.Prelude.{◌≡◌, ◌<◌, ◌++◌, codes, IfOk, OnOk};
 ghost use Rattle.civil_minutes.specs.declared.century.TheConstants.{MINUTES_OF_CENTURY};
-ghost use Rattle.driver_cli.specs.Parts.{IsText};
-ghost use Rattle.driver_cli.specs.Texts.{spent_text, read_fault_text, write_fault_text, tour_refused_text, log_refused_text, unlawful_text, accepted_shortest_text, reason_text, rejected_text};
+ghost use Rattle.duty_core.specs.RuleNames.{rule_name};
+ghost use Rattle.text_parts.specs.Parts.{IsText};
+ghost use Rattle.driver_cli.specs.Texts.{spent_text, read_fault_text, write_fault_text, tour_refused_text, log_refused_text, rule_words, unlawful_text, made_text, made_shortest_text, made_infeasible_text, made_spent_text, accepted_shortest_text, reason_text, rejected_text};
 
 use crate::fault_text::{push_log_fault, push_tour_fault};
-use crate::text::Text;
 use cert_checker::Reason;
-use duty_core::{Minute, NoMemory};
+use duty_core::{Minute, NoMemory, Rule};
 use duty_log::LogFault;
 use outside::Word;
 use std::alloc::Global;
+use text_parts::Text;
 use tour_reader::TourFault;
 
 /// The words that are sentences.
 pub const USAGE: &str =
-    "usage: driver plan TOUR LOG CERT [--budget N]\n       driver check TOUR LOG CERT\n       driver audit TOUR LOG\n";
+    "usage: driver plan TOUR LOG CERT [--budget N]\n       driver check TOUR LOG CERT\n       driver audit TOUR LOG\n       driver graph TOUR LOG\n       driver make N TOUR LOG\n";
 
 /// The answer where the search's budget of labels is spent.
 pub fn spent_text(alloc: Global, budget: u32) -> Result<Text, NoMemory>
@@ -67,13 +68,87 @@ pub fn log_refused_text(alloc: Global, fault: LogFault) -> Result<Text, NoMemory
     Ok(text)
 }
 
-/// The answer to a log that breaks a rule in the unit that begins at this minute.
-pub fn unlawful_text(alloc: Global, at: Minute) -> Result<Text, NoMemory>
+/// Puts a space and its name behind the text for each rule.
+fn push_rules(text: &mut Text, rules: &[Rule]) -> Result<(), NoMemory>
+    ensures { OnOk result (text.new ≡ text.old ++ rule_words rules.now) }
+{
+    for rule in rules {
+        push_rule(text, *rule)?;
+    }
+    Ok(())
+}
+
+/// Puts a space and the rule's name behind the text.
+fn push_rule(text: &mut Text, rule: Rule) -> Result<(), NoMemory>
+    ensures { OnOk result (text.new ≡ text.old ++ (codes " " ++ rule_name rule)) }
+{
+    text.push_str(" ")?;
+    text.push_str(rule.name())
+}
+
+/// The answer to a log that is unlawful in the unit that begins at this minute, and up to it breaks
+/// these rules.
+pub fn unlawful_text(alloc: Global, at: Minute, rules: &[Rule]) -> Result<Text, NoMemory>
     requires { at < MINUTES_OF_CENTURY }
-    ensures { IfOk result (IsText (unlawful_text at)) }
+    ensures { IfOk result (IsText (unlawful_text at rules.now)) }
 {
     let mut text = Text::of(alloc, "log unlawful at ")?;
     text.push_time(at)?;
+    text.push_str(":")?;
+    push_rules(&mut text, rules)?;
+    text.push_str("\n")?;
+    Ok(text)
+}
+
+/// The first line of a summary: a made tour, and the number of its stops.
+fn made_text(alloc: Global, number: u32, stops: usize) -> Result<Text, NoMemory>
+    ensures { IfOk result (λ text. text ≡ made_text number stops) }
+{
+    let mut text = Text::of(alloc, "made ")?;
+    text.push_number(alloc, u64::from(number))?;
+    text.push_str(" stops ")?;
+    text.push_number(alloc, stops as u64)?;
+    text.push_str("\n")?;
+    Ok(text)
+}
+
+/// The summary of a made tour whose shortest schedules take so many minutes.
+pub fn made_shortest_text(
+    alloc: Global,
+    number: u32,
+    stops: usize,
+    minutes: u32,
+) -> Result<Text, NoMemory>
+    ensures { IfOk result (λ text. text ≡ made_shortest_text number stops minutes) }
+{
+    let mut text = made_text(alloc, number, stops)?;
+    text.push_str("shortest ")?;
+    text.push_clock(alloc, minutes)?;
+    text.push_str("\n")?;
+    Ok(text)
+}
+
+/// The summary of a made tour that no schedule serves lawfully.
+pub fn made_infeasible_text(alloc: Global, number: u32, stops: usize) -> Result<Text, NoMemory>
+    ensures { IfOk result (λ text. text ≡ made_infeasible_text number stops) }
+{
+    let mut text = made_text(alloc, number, stops)?;
+    text.push_str("infeasible\n")?;
+    Ok(text)
+}
+
+/// The summary of a made tour for which the search's budget of labels is spent.
+pub fn made_spent_text(
+    alloc: Global,
+    number: u32,
+    stops: usize,
+    budget: u32,
+) -> Result<Text, NoMemory>
+    ensures { IfOk result (λ text. text ≡ made_spent_text number stops budget) }
+{
+    let mut text = made_text(alloc, number, stops)?;
+    text.push_str("spent ")?;
+    text.push_number(alloc, u64::from(budget))?;
     text.push_str("\n")?;
     Ok(text)
 }

@@ -1,15 +1,17 @@
 //! All that the planner does, over any desk and any sink.
 ghost use Rattle.driver_cli.specs.Sides.{read_side, write_side, sink_side};
-ghost use Rattle.driver_cli.specs.Command.{HasBudget};
+ghost use Rattle.command_words.specs.Command.{HasBudget};
 ghost use Rattle.driver_cli.specs.Ends.{Ends};
 ghost use Rattle.driver_cli.specs.Steps.{Concludes, CommandAnswers, CommandLeaves, WordsAnswers, WordsLeave, Settles};
 
 use crate::answer::{Answer, Halt, Status, send_answer};
 use crate::audit::audit;
 use crate::check::check;
-use crate::command::{Command, command_of};
+use crate::graph::graph;
+use crate::make::make;
 use crate::plan::plan;
 use crate::texts::USAGE;
+use command_words::{Command, command_of};
 use duty_core::NoMemory;
 use outside::{Desk, Sink, Word};
 use std::alloc::Global;
@@ -30,6 +32,8 @@ fn run<D: Desk>(alloc: Global, command: &Command, desk: &mut D) -> Result<Answer
         } => plan(alloc, tour, log, cert, *budget, desk),
         Command::Check { tour, log, cert } => check(alloc, tour, log, cert, desk),
         Command::Audit { tour, log } => audit(alloc, tour, log, desk),
+        Command::Graph { tour, log } => graph(alloc, tour, log, desk),
+        Command::Make { number, tour, log } => make(alloc, *number, tour, log, desk),
     }
 }
 
@@ -65,12 +69,17 @@ fn settled(ended: Result<Answer, Halt>) -> Result<Answer, NoMemory>
 /// - `check TOUR LOG CERT` reads three files, and says whether the third holds a valid certificate of
 ///   the tour behind the log.
 /// - `audit TOUR LOG` says whether the log is lawful.
+/// - `graph TOUR LOG` sends the graph of the log, and does not judge it.
+/// - `make N TOUR LOG` puts the tour of the number N, from 0 to 999,999, and its log into the files of
+///   these names, the tour first, plans that tour with 200,000 labels, and says how many stops it has
+///   and how long a shortest schedule takes.
 ///
 /// The status tells how the call ended. It is the first of these that holds:
 ///
 /// - `Usage` where the words are others,
 /// - `ReadFault` where the tour's file cannot be read, `Refused` where it gives no tour,
 /// - `ReadFault` where the log's file cannot be read, `Refused` where it gives no log,
+/// - of `graph` then `Done`,
 /// - `LogUnlawful` where the log breaks a rule,
 /// - of `audit` then `Done`,
 /// - of `check`: `ReadFault` where the certificate's file cannot be read, `Rejected` where it holds no
@@ -78,8 +87,12 @@ fn settled(ended: Result<Answer, Halt>) -> Result<Answer, NoMemory>
 /// - of `plan`: `Spent` where the search may keep no more labels, `WriteFault` where the certificate
 ///   cannot be put, `Infeasible` where no schedule serves the tour lawfully, else `Done`.
 ///
-/// `WriteFault` too where the sink did not take the whole text, `Memory` where there was no memory; the
-/// certificate may have been put then.
+/// `make` reads no file. It ends with `WriteFault` where the tour's file or then the log's cannot be
+/// put, `Spent` where the search may keep no more labels, `Infeasible` where no schedule serves the tour
+/// lawfully, else `Done`.
+///
+/// `WriteFault` too where the sink did not take the whole text, `Memory` where there was no memory; a
+/// file may have been put then.
 pub fn drive_tool<D: Desk, S: Sink>(
     alloc: Global,
     words: &[Word],

@@ -1,9 +1,0 @@
-use Rattle.std.proofs.Common.{◌++◌, ◌∙◌, ap}
-use Rattle.std.proofs.lemmas.Result.{on_ok_weaker}
-use Rattle.driver_cli.proofs.Clock.{clock_is}
-use Rattle.driver_cli.proofs.text.Text.push_clock.Goals as goal
-
-pub returns : goal.returns
-returns c =
-    let clock = c.in_ok-clock.ensures.ok ∙ rw c.laid_out.ensures (clock_is c.args.minutes) in
-    on_ok_weaker c.push_str.result (λ is. is ∙ ap (λ t. c.args.self.now ++ t) (c.as_str.ensures.value ∙ clock)) c.push_str.ensures

@@ -1,0 +1,41 @@
+//! The graph of the log of a tour.
+ghost use Rattle.std.specs.Prelude.{◌≡◌, ◌*◌, ◌≤◌, length, IfOk, ⊤};
+ghost use Rattle.duty_core.specs.Params.{unit_minutes};
+ghost use Rattle.duty_core.specs.declared.limits.TheConstants.{LONGEST_LOG};
+ghost use Rattle.log_graph.specs.Graph.{IsGraph};
+ghost use Rattle.tour_model.specs.Schedule.{log_start};
+ghost use Rattle.tour_model.specs.Tour.{IsTour};
+ghost use Rattle.driver_cli.specs.Sides.{read_side};
+ghost use Rattle.driver_cli.specs.Answers.{GraphAnswers};
+ghost use Rattle.driver_cli.specs.Steps.{Concludes};
+
+use crate::answer::{Answer, Halt, Status};
+use crate::audit::log_start;
+use crate::fetch::{Inputs, fetch_inputs};
+use duty_core::NoMemory;
+use outside::{Desk, Word};
+use std::alloc::Global;
+
+/// The answer to a log that was read: its graph.
+fn drawn(alloc: Global, inputs: &Inputs) -> Result<Answer, NoMemory>
+    requires tour { IsTour inputs.now.tour }
+    requires short { unit_minutes inputs.now.tour.params * length inputs.now.log ≤ LONGEST_LOG }
+    ensures { IfOk result (λ answer. (answer.status ≡ Status.Done) × IsGraph inputs.now.tour.params (log_start inputs.now.tour inputs.now.log) inputs.now.log answer.text) }
+{
+    let first = log_start(&inputs.tour, &inputs.log);
+    Ok(Answer {
+        status: Status::Done,
+        text: log_graph::graph(alloc, inputs.tour.params, &inputs.log, first)?,
+    })
+}
+
+/// Sends the graph of the log, lawful or not, behind the refusals of the two files.
+pub fn graph<D: Desk>(alloc: Global, tour: &Word, log: &Word, desk: &mut D) -> Result<Answer, Halt>
+    ensures files { D.files desk.new ≡ D.files desk.old }
+    ensures write_faults { D.write_faults desk.new ≡ D.write_faults desk.old }
+    ensures write_failed { D.write_failed desk.new ≡ D.write_failed desk.old }
+    ensures answer { Concludes result (GraphAnswers tour.now log.now (read_side (D.files desk.old) (D.read_faults desk.old) (D.read_faults desk.new) (D.read_failed desk.new))) ⊤ }
+{
+    let inputs = fetch_inputs(alloc, tour, log, desk)?;
+    Ok(drawn(alloc, &inputs)?)
+}
