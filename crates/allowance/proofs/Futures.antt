@@ -1,11 +1,11 @@
-use Rattle.std.proofs.Common.{◌≡◌, ◌↔◌, ℕ, ◌≤◌, true, false, List, ◌∷◌, map, sym, ◌∙◌, ap, subst, refl}
+use Rattle.std.proofs.Common.{◌≡◌, ◌↔◌, ℕ, ◌≤◌, Bool, true, false, List, [], ◌∷◌, map, sym, ◌∙◌, ap, subst, refl}
 use Rattle.std.specs.Prelude.{All, Result, Ok, Err, OnOk}
 use Rattle.duty_core.specs.declared.activity.Activity.{Activity}
 use Rattle.duty_core.specs.Activity.{works}
 use Rattle.allowance.specs.declared.limit.Limit.{Limit}
 use Rattle.allowance.specs.declared.limit.Need.{Need}
 use Rattle.allowance.specs.Allow.{Held, Allows, KeepsLimit, MeetsNeed, IsHeld, settled, needed_needs, may_spend, spent, passed, added, needed, spent_limit, passed_need, added_limits}
-use Rattle.allowance.specs.AllowLaws.{allows_duty, allows_rest, allows_added, allows_needed, allows_settled}
+use Rattle.allowance.specs.Laws.AllowLaws.{allows_duty, allows_rest, allows_none, allows_added, allows_needed, allows_settled, held_spent}
 
 pub passes : (old h new : Held) → old ≡ h → IsHeld h → new ≡ passed h → (x : Activity) (xs : List Activity) → works x ≡ false → Allows old (x ∷ xs) ↔ Allows new xs
 passes old h new o i g x xs w = subst (λ k. Allows k (x ∷ xs) ↔ Allows new xs) (sym o) (subst (λ k. Allows h (x ∷ xs) ↔ Allows k xs) (sym g) (allows_rest h x xs w i))
@@ -23,6 +23,14 @@ pub spends_not : (old h : Held) → old ≡ h → IsHeld h → may_spend h ≡ f
 spends_not old h o i m x xs w =
     let a = allows_duty h x xs w i in
     ((λ k. absurd (let z : false ≡ true = sym m ∙ (a.0 (subst (λ g. Allows g (x ∷ xs)) o k)).0 in cc)), (λ k. absurd (let z = k.0 in cc)))
+
+-- one duty unit alone, and rest for good after it
+pub spends_alone : (old h : Held) (b : Bool) → old ≡ h → IsHeld h → may_spend h ≡ b → (x : Activity) → works x ≡ true → Allows old (x ∷ []) ↔ (b ≡ true)
+spends_alone old h b o i m x w =
+    let a = allows_duty h x [] w i in (
+      (λ k. sym m ∙ (a.0 (subst (λ g. Allows g (x ∷ [])) o k)).0),
+      (λ t. subst (λ g. Allows g (x ∷ [])) (sym o) (a.1 (m ∙ t, allows_none (spent h) (held_spent h i (m ∙ t))))),
+    )
 
 pub adds : {E : Type 0} (r : Result (Unit {0}) E) (old h : Held) (p : Limit) (ps : List Limit) → old ≡ h → OnOk r (ps ≡ added_limits h.limits p) →
     OnOk r ((xs : List Activity) → Allows (record h { limits = ps }) xs ↔ (Allows old xs × KeepsLimit xs p))

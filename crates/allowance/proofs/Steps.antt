@@ -7,7 +7,7 @@ use Rattle.std.specs.List.Retain.{RetainsInTurn}
 use Rattle.allowance.specs.declared.limit.Limit.{Limit}
 use Rattle.allowance.specs.declared.limit.Need.{Need}
 use Rattle.allowance.specs.Allow.{Held, IsHeld, IsOpenNeed, one_more, passed, needed_needs, spent_limit, passed_limit, passed_need, is_open, waits, added_limits}
-use Rattle.allowance.specs.AllowLaws.{held_spent, held_added, held_needed}
+use Rattle.allowance.specs.Laws.AllowLaws.{held_spent, held_added, held_needed}
 
 -- one more element is written
 pub step_map : {X : Type 0} (f : X → X) (cur old : List X) (i : ℕ) (d : X) → i < length cur → cur ≡ map f (take i old) ++ drop i old →

@@ -1,3 +1,3 @@
 pub mod Allow
-pub mod AllowLaws
 pub mod Few
+pub mod Laws

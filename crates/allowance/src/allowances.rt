@@ -75,12 +75,14 @@ impl Allowances {
     }
 
     /// One duty unit. False exactly where it may not be: some limit leaves no duty unit, or some need
-    /// would become impossible. Then nothing changes.
+    /// would become impossible. Then nothing changes. So it is true exactly where this unit alone,
+    /// followed by rest for good, is allowed.
     pub fn spend(&mut self) -> bool
         ensures says { result ≡ may_spend self.old }
         ensures done { IsTrue result → self.new ≡ spent self.old }
         ensures kept { IsFalse result → self.new ≡ self.old }
         ensures future { (x : Activity) (xs : List Activity) → works x ≡ true → Allows self.old (x ∷ xs) ↔ ((result ≡ true) × Allows self.new xs) }
+        ensures alone { (x : Activity) → works x ≡ true → Allows self.old (x ∷ []) ↔ (result ≡ true) }
     {
         if !lists::may_spend_both(&self.limits, &self.needs) {
             return false;
@@ -156,6 +158,13 @@ impl Allowances {
             needs: SmallVec::from_slice(alloc, needs)?,
             run,
         }))
+    }
+
+    /// Rest for good, with no duty to come, is always allowed.
+    pub fn allow_rest(&self)
+        ensures { Allows self.now [] }
+    {
+        let _ = &self.run;
     }
 
     /// All allowances pass the test of `from_parts`.

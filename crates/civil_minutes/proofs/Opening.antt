@@ -129,9 +129,9 @@ bad_from text k small opening closed =
       ];
     }
 
--- a text that goes on behind a time is bad from the time's end
-pub bad_behind : (text : List ℕ) → Opens text 16 → 16 < length text → IsBadFrom text 16
-bad_behind text opening long =
+-- a text that goes on after a time is bad from the time's end
+pub bad_after : (text : List ℕ) → Opens text 16 → 16 < length text → IsBadFrom text 16
+bad_after text opening long =
     record {
       none = λ at h. omega (arith, ap length h.spelled);
       begins = begins_from_opens text 16 opening;

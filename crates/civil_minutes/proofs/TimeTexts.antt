@@ -7,7 +7,7 @@ use Rattle.jiff_core.proofs.CalendarLemmas.{days_in_month_bounds}
 use Rattle.civil_minutes.specs.Time.{digit, time_text, days_after_2000, minutes_until, IsTime, IsTimeText, IsBadFrom}
 use Rattle.civil_minutes.specs.Fields.{IsOfCentury, BeginsWithTime}
 use Rattle.civil_minutes.proofs.CenturyDates.{civil_from_date, same_parts}
-use Rattle.civil_minutes.proofs.Opening.{Opens, bad_behind}
+use Rattle.civil_minutes.proofs.Opening.{Opens, bad_after}
 use Rattle.civil_minutes.proofs.StopPlaces.{is_time, within_month}
 
 -- the number of two digits
@@ -66,9 +66,9 @@ opens_whole text date minutes long b =
       agrees = record { inside = long; same = b.begins };
     }
 
--- a text that goes on behind the time
+-- a text that goes on after the time
 pub bad_end : (text : List ℕ) (date : Date) (minutes : ℕ) → BeginsWithTime text date minutes → 16 < length text → IsBadFrom text 16
-bad_end text date minutes b long = bad_behind text (opens_whole text date minutes (omega arith) b) long
+bad_end text date minutes b long = bad_after text (opens_whole text date minutes (omega arith) b) long
 
 -- a text that ends with the time
 pub time_read : (text : List ℕ) (date : Date) (minutes before : ℕ) → BeginsWithTime text date minutes → length text ≤ 16 → pos before ≡ days_after_2000 date.year date.month date.day *ℤ pos 1440 → IsTimeText text (before + minutes)

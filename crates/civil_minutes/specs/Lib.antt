@@ -2,4 +2,4 @@ pub mod Day
 pub mod Time
 pub mod Fields
 pub mod TimeOf
-pub mod TimeOfLaws
+pub mod Laws

@@ -13,7 +13,7 @@ use jiff::civil::{Date, date};
 #[derive(Clone, Copy, Debug, PartialEq, Eq)]
 pub struct BadTime {
     /// The place, in bytes from 0, of the first byte with which the text begins no time, or the
-    /// text's length where a time goes on behind it.
+    /// text's length where a time goes on after it.
     pub place: u32,
 }
 

@@ -21,7 +21,7 @@ pub record IsCycleCount (s : CycleCount) : Type 0 where
   pub without_most : s.without ≤ WITHOUT_LIMIT
   pub no_without : (s.cycle ≡ CA_CYCLE_2) ⊎ (s.without ≡ 0)
 
--- behind the rest before a history, which is a reset
+-- after the rest before a history, which is a reset
 abbrev pub fresh_cycle : ℕ → CycleCount
 fresh_cycle cycle = cycle_made cycle (cycle_reset cycle) (replicate (cycle_days cycle) 0) 0 0
 

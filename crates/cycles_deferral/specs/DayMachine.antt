@@ -55,7 +55,7 @@ abbrev pub days_made : RestWay → ℕ → ℕ → DayCount → DayCount → ℕ
 days_made way minute rest today yesterday before reaches =
     record { way = way; minute = minute; rest = rest; today = today; yesterday = yesterday; before = before; reaches = reaches }
 
--- behind the rest before a history, which reaches back into yesterday
+-- after the rest before a history, which reaches back into yesterday
 abbrev pub fresh_days : RestWay → CanadaDays
 fresh_days way = days_made way 0 NEEDED_LIMIT (day_count 0 0 NEEDED_LIMIT) (day_count 0 0 NEEDED_LIMIT) 0 true
 

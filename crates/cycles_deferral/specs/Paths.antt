@@ -12,7 +12,7 @@ use Rattle.cycles_deferral.specs.declared.cycle.CycleCount.{CycleCount}
 use Rattle.cycles_deferral.specs.DayMachine.{days_after}
 use Rattle.cycles_deferral.specs.CycleMachine.{cycle_after}
 
--- the minutes of rest before and behind a history, and a history as the rules see it: what duty_core says of every Canadian book
+-- the minutes of rest before and after a history, and a history as the rules see it: what duty_core says of every Canadian book
 abbrev pub ca_pads : ℕ
 ca_pads = pad_days * 1440
 

@@ -34,7 +34,7 @@ pub struct CycleCount {
 }
 
 impl CycleCount {
-    /// The counts behind the rest before a history. `cycle` is 1 or 2; another number has the days,
+    /// The counts after the rest before a history. `cycle` is 1 or 2; another number has the days,
     /// the reset and the limit of cycle 2.
     pub fn fresh(cycle: u8) -> CycleCount
         ensures counts { result ≡ fresh_cycle cycle }
@@ -66,7 +66,7 @@ impl CycleCount {
     /// The counts after `n` more equal minutes of a day, at least one, of which only the first may
     /// begin it: what `n` calls of `unit` give. `None` exactly where one of them gives none. The
     /// duty of the day, that of these minutes counted, must be at most 1,440 minutes.
-    #[tactic(auto, using(crate::specs::CycleRuns::cycle_run_at_once))]
+    #[tactic(auto, using(crate::specs::Laws::CycleRuns::cycle_run_at_once))]
     pub fn run(self, act: Activity, new_day: bool, n: u32) -> Option<CycleCount>
         requires good { IsCycleCount self }
         requires some { 1 ≤ n }

@@ -41,7 +41,7 @@ pub struct CanadaDays {
 }
 
 impl CanadaDays {
-    /// The days behind the rest before a history.
+    /// The days after the rest before a history.
     pub fn fresh(way: RestWay) -> CanadaDays
         ensures days { result ≡ fresh_days way }
         ensures kept { IsCanadaDays result }
@@ -64,7 +64,7 @@ impl CanadaDays {
 
     /// The days after one more minute of `day`, which begins that day where `new_day`, and the mark
     /// that is chosen at it: of `day`, or of the day before where duty ends a short rest over
-    /// midnight. `None` exactly where the history with this minute, and rest behind it, breaks
+    /// midnight. `None` exactly where the history with this minute, and rest after it, breaks
     /// CA-OFF10 or CA-DEFER.
     ///
     /// This is so of calls that take the successive minutes of one history. A day ends 1,440 minutes
@@ -119,7 +119,7 @@ impl CanadaDays {
     }
 
     /// The days after `n` more minutes of duty in today, and the mark that is chosen at one of them.
-    #[tactic(auto, using(crate::specs::DayRuns::too_many))]
+    #[tactic(auto, using(crate::specs::Laws::DayRuns::too_many))]
     fn at_duty(self, day: Day, n: u32) -> Option<(CanadaDays, Option<Mark>)>
         requires good { IsCanadaDays self }
         requires day { negsuc 0 ≤ℤ day }

@@ -33,7 +33,7 @@ pub fn book_days_are_days()
 {}
 
 /// Under `split` the days take a history exactly where each of its days loses at most its limit,
-/// rest before and behind it, and choose no marks.
+/// rest before and after it, and choose no marks.
 pub fn split_days_are_exact()
     ensures { (day : ℕ → ℕ) → AreDays day → (h : List Activity) (marks : List Mark) →
         ((t : CanadaDays) × TakesDays day (fresh_days Split) ca_pads h marks t) ↔
@@ -41,7 +41,7 @@ pub fn split_days_are_exact()
 {}
 
 /// Under `defer` the days take a history with these marks exactly where these are marks of
-/// deferrals, in order, with which it keeps CA-OFF10 and CA-DEFER, rest before and behind it.
+/// deferrals, in order, with which it keeps CA-OFF10 and CA-DEFER, rest before and after it.
 pub fn deferred_days_are_exact(params: Params)
     ensures { IsDeferWay params → (day : ℕ → ℕ) → AreDays day → (h : List Activity) (marks : List Mark) →
         ((t : CanadaDays) × TakesDays day (fresh_days Defer) ca_pads h marks t) ↔

@@ -15,7 +15,7 @@ use day_sums::DaySums;
 use duty_core::{Activity, DAY_MINUTES, Mark, Params, RestWay};
 use std::test::Fail;
 
-/// The days behind so many minutes of an activity, of which the first one is the minute `from`
+/// The days after so many minutes of an activity, of which the first one is the minute `from`
 /// after the midnight that begins day 0, with the last mark that was chosen. `None` where a minute
 /// is refused.
 fn spent(days: CanadaDays, from: u32, act: Activity, n: u32) -> Option<(CanadaDays, Option<Mark>)>
@@ -36,7 +36,7 @@ fn spent(days: CanadaDays, from: u32, act: Activity, n: u32) -> Option<(CanadaDa
     Some((after, last))
 }
 
-/// The days and the last mark behind a history that begins at midnight: rest and duty in turn, in
+/// The days and the last mark after a history that begins at midnight: rest and duty in turn, in
 /// minutes, rest first. `None` where it is refused, or is longer than a few days.
 fn lived(way: RestWay, parts: &[u32]) -> Option<(CanadaDays, Option<Mark>)>
     ensures { IfSome result (λ r. IsCanadaDays r.0) }
@@ -231,7 +231,7 @@ fn days_with_less_lost_stand_for_others(rt: HostRuntime) {
     );
 }
 
-/// The counts of a cycle behind so many minutes of an activity, all in one day.
+/// The counts of a cycle after so many minutes of an activity, all in one day.
 fn counted(count: CycleCount, act: Activity, n: u32) -> Option<CycleCount>
     requires good { IsCycleCount count }
     ensures { IfSome result (λ s. IsCycleCount s) }
@@ -248,7 +248,7 @@ fn counted(count: CycleCount, act: Activity, n: u32) -> Option<CycleCount>
 }
 
 /// The counts with these parts, if after `n` minutes of `act` and one of driving there are any.
-fn drives_behind(
+fn drives_after(
     cycle: u8,
     rest: u32,
     sums: &[u32],
@@ -263,7 +263,7 @@ fn drives_behind(
 }
 
 #[test]
-fn a_cycle_ends_at_its_limit_and_begins_anew_behind_a_reset(rt: HostRuntime) {
+fn a_cycle_ends_at_its_limit_and_begins_anew_after_a_reset(rt: HostRuntime) {
     let full = [600; 7];
     let almost = [599, 600, 600, 600, 600, 600, 600];
     for (sums, rest, n, kept) in [
@@ -272,7 +272,7 @@ fn a_cycle_ends_at_its_limit_and_begins_anew_behind_a_reset(rt: HostRuntime) {
         (full, 1800, 359, false),
         (full, 1800, 360, true),
     ] {
-        let after = drives_behind(1, rest, sums.as_slice(), 0, 0, Activity::Off, n);
+        let after = drives_after(1, rest, sums.as_slice(), 0, 0, Activity::Off, n);
         assert_eq!(rt; after.is_some(), kept, "cycle 1, {rest} and {n}");
     }
     let full = [
@@ -287,7 +287,7 @@ fn a_cycle_ends_at_its_limit_and_begins_anew_behind_a_reset(rt: HostRuntime) {
         (full, 4000, 319, false),
         (full, 4000, 320, true),
     ] {
-        let after = drives_behind(2, rest, sums.as_slice(), 0, 0, Activity::Off, n);
+        let after = drives_after(2, rest, sums.as_slice(), 0, 0, Activity::Off, n);
         assert_eq!(rt; after.is_some(), kept, "cycle 2, {rest} and {n}");
     }
 }
@@ -309,7 +309,7 @@ fn duty_of_other_days_falls_out_of_a_cycle(rt: HostRuntime) -> Result<(), Fail> 
     Ok(())
 }
 
-/// The counts behind one minute that begins a day.
+/// The counts after one minute that begins a day.
 fn begun(count: CycleCount, act: Activity) -> Option<CycleCount>
     requires good { IsCycleCount count }
     ensures { IfSome result (λ s. IsCycleCount s) }
@@ -317,7 +317,7 @@ fn begun(count: CycleCount, act: Activity) -> Option<CycleCount>
     count.unit(act, true)
 }
 
-/// The counts behind so many days with one minute of duty each, and rest that is a minute short of
+/// The counts after so many days with one minute of duty each, and rest that is a minute short of
 /// a day.
 fn nearly_rested(days: u32) -> Option<CycleCount>
     ensures { IfSome result (λ s. IsCycleCount s) }
@@ -347,7 +347,7 @@ fn a_fortnight_holds_a_day_off(rt: HostRuntime) -> Result<(), Fail> {
 }
 
 #[test]
-fn cycle_2_has_a_day_off_behind_seventy_hours(rt: HostRuntime) {
+fn cycle_2_has_a_day_off_after_seventy_hours(rt: HostRuntime) {
     let sums = [300; 14];
     for (cycle, without, rest, n, kept) in [
         (2, 4199, 0, 0, true),
@@ -355,11 +355,11 @@ fn cycle_2_has_a_day_off_behind_seventy_hours(rt: HostRuntime) {
         (2, 4200, 1000, 439, false),
         (2, 4200, 1000, 440, true),
     ] {
-        let after = drives_behind(cycle, rest, sums.as_slice(), 0, without, Activity::Off, n);
+        let after = drives_after(cycle, rest, sums.as_slice(), 0, without, Activity::Off, n);
         assert_eq!(rt; after.is_some(), kept, "{without}, {rest} and {n}");
     }
     // Cycle 1 doesn't ask for it, and counts nothing for it.
-    let none = drives_behind(1, 0, [0; 7].as_slice(), 0, 4200, Activity::Off, 0);
+    let none = drives_after(1, 0, [0; 7].as_slice(), 0, 4200, Activity::Off, 0);
     assert!(rt; none.is_none());
 }
 

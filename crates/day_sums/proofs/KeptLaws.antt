@@ -6,7 +6,7 @@ use Rattle.std.proofs.lemmas.List.Elements.{All-take, All-cons}
 use Rattle.std.proofs.lemmas.List.Sums.{sum_by-le, sum_by-take-le}
 use Rattle.duty_core.specs.declared.limits.TheConstants.{DAY_MINUTES}
 use Rattle.day_sums.specs.Sums.{IsDays, added, rolled, today, AreSums, AreKept}
-use Rattle.day_sums.specs.SumLaws.{take_within}
+use Rattle.day_sums.specs.Laws.SumLaws.{take_within}
 
 pub days_few : (days : ℕ) → IsDays days → days ≤ 14
 days_few days h = elim h [ inl e ↦ omega arith | inr f ↦ elim f [ inl e ↦ omega arith | inr e ↦ omega arith ] ]

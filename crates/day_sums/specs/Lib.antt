@@ -1,5 +1,3 @@
 pub mod Sums
-pub mod SumLaws
 pub mod Counted
-pub mod LeftLaws
-pub mod Now
+pub mod Laws

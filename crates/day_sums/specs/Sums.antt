@@ -1,6 +1,6 @@
 -- Sums of the duty of the last days, in minutes, the youngest day first.
-use Rattle.std.specs.Prelude.{◌≡◌, ℕ, ◌+◌, ◌-◌, ◌≤◌, ◌⊎◌, zero, suc, Bool, true, nat_le, ◌&&◌, List, [], ◌∷◌, ◌++◌, length, take, drop, replicate, sum, All}
-use Rattle.duty_core.specs.declared.limits.TheConstants.{DAY_MINUTES, US_SHORT_WEEK, CA_CYCLE_1_DAYS, CA_CYCLE_2_DAYS}
+use Rattle.std.specs.Prelude.{◌≡◌, ℕ, ◌+◌, ◌-◌, ◌≤◌, ◌⊎◌, zero, suc, Bool, true, nat_le, ◌&&◌, List, [], ◌∷◌, length, take, drop, replicate, sum, All}
+use Rattle.duty_core.specs.declared.limits.TheConstants.{DAY_MINUTES}
 
 -- how many days may be counted: a week of 7 or 8 days, or a cycle of 14
 abbrev pub IsDays : ℕ → Type 0
@@ -28,10 +28,6 @@ abbrev pub today : List ℕ → ℕ
 today [] = 0
 today (x ∷ xs) = x
 
--- After each number of day turns that leaves at most so many days, the sums xs leave no less of the limit than the sums ys.
-abbrev pub LeavesNoLess : ℕ → ℕ → List ℕ → List ℕ → Type 0
-LeavesNoLess limit days xs ys = (n : ℕ) → n ≤ days → limit - first_days n ys ≤ limit - first_days n xs
-
 -- the same as a test
 abbrev pub leaves_no_less : ℕ → ℕ → List ℕ → List ℕ → Bool
 leaves_no_less limit zero xs ys = true
@@ -42,7 +38,7 @@ pub record AreSums (sums : List ℕ) : Type 0 where
   pub days : IsDays (length sums)
   pub within : All (λ n. n ≤ DAY_MINUTES) sums
 
--- The sums stand at the front of a list of 14 numbers, and behind them are zeros.
+-- The sums stand at the front of a list of 14 numbers, and after them are zeros.
 pub record AreKept (days : ℕ) (kept : List ℕ) : Type 0 where
   pub long : length kept ≡ 14
   pub sums : AreSums (take days kept)

@@ -1,6 +1,5 @@
 -- The minutes and the days of the places of a padded history, whose history begins at the minute `first`.
 use Rattle.std.specs.Prelude.{◌≡◌, ℕ, ◌+◌, ◌-◌, ◌*◌, ◌/◌, ◌<◌, ◌≤◌, ℤ, pos, ◌+ℤ◌, ◌-ℤ◌}
-use Rattle.std.specs.Int.{int_div_euclid}
 use Rattle.duty_core.specs.declared.params.Params.{Params}
 use Rattle.duty_core.specs.declared.params.Params.TheVariants.{UsProperty, Canada, Hvnl}
 use Rattle.duty_core.specs.declared.limits.TheConstants.{DAY_MINUTES}
@@ -16,10 +15,6 @@ day_start Hvnl = 0
 -- the civil minute at which place i begins; a place of the padding may lie before year 2000
 abbrev pub minute_at : Params → ℕ → ℕ → ℤ
 minute_at params first i = pos (first + unit_minutes params * i) -ℤ pos (unit_minutes params * pad_units params)
-
--- the day of place i: its minute less the day's start, divided by the length of a day and rounded down
-abbrev pub day_at : Params → ℕ → ℕ → ℤ
-day_at params first i = int_div_euclid (minute_at params first i -ℤ pos (day_start params)) (pos DAY_MINUTES)
 
 -- The number of a day: the days of the padding and one more are added, so that each place's day has one. Days follow each other as their numbers do.
 abbrev pub IsNumberOfDay : ℤ → ℕ → Type 0

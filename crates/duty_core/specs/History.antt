@@ -1,4 +1,4 @@
--- A history, and the long rest that stands before and behind it.
+-- A history, and the long rest that stands before and after it.
 use Rattle.std.specs.Prelude.{ℕ, ◌+◌, ◌*◌, ◌<◌, ◌≤◌, List, ◌++◌, length, take, drop, replicate, slice_index_or}
 use Rattle.duty_core.specs.declared.activity.Activity.{Activity}
 use Rattle.duty_core.specs.declared.activity.Activity.TheVariants.{Off}
@@ -6,7 +6,7 @@ use Rattle.duty_core.specs.declared.params.Params.{Params}
 use Rattle.duty_core.specs.declared.limits.TheConstants.{LONGEST_HISTORY, MINUTE_LIMIT, PADDING_DAYS}
 use Rattle.duty_core.specs.Params.{unit_minutes, day_units, BeginsUnit}
 
--- how many days of rest stand before and behind a history
+-- how many days of rest stand before and after a history
 unfoldable pub pad_days : ℕ
 pad_days = PADDING_DAYS
 

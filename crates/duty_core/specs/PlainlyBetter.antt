@@ -1,5 +1,5 @@
--- When one history is plainly better than another of the same length, whatever comes next. Here p and q are the histories up to now, behind their padding, with no rest behind them. A run of rest that they end with is in progress and no declared rest yet.
-use Rattle.std.specs.Prelude.{◌≡◌, ℕ, ◌+◌, ◌-◌, ◌<◌, ◌≤◌, ◌⊎◌, Bool, true, List, [], ◌∷◌, ◌++◌, length, Contains}
+-- When one history is plainly better than another of the same length, whatever comes next. Here p and q are the histories up to now, after their padding, with no rest after them. A run of rest that they end with is in progress and no declared rest yet.
+use Rattle.std.specs.Prelude.{◌≡◌, ℕ, ◌+◌, ◌-◌, ◌<◌, ◌≤◌, ◌⊎◌, max, Bool, true, List, [], ◌∷◌, ◌++◌, length, Contains}
 use Rattle.duty_core.specs.declared.activity.Activity.{Activity}
 use Rattle.duty_core.specs.declared.activity.Activity.TheVariants.{Serve}
 use Rattle.duty_core.specs.declared.mark.Mark.{Mark}
@@ -7,8 +7,8 @@ use Rattle.duty_core.specs.declared.params.Params.{Params}
 use Rattle.duty_core.specs.declared.params.Params.TheVariants.{UsProperty, Canada, Hvnl}
 use Rattle.duty_core.specs.declared.limits.TheConstants.{US_FULL_REST, US_RESTART, CA_FULL_REST, CA_DAY_OFF, CA_CYCLE_2, AU_SHORT_START, AU_LONG_START, AU_5H30_PERIOD, AU_5H30_DUTY, AU_8H_PERIOD, AU_8H_DUTY, AU_11H_PERIOD, AU_11H_DUTY, AU_24H_PERIOD, AU_24H_DUTY, AU_24H_REST, AU_7D_PERIOD, AU_7D_DUTY, AU_7D_REST, AU_14D_PERIOD, AU_14D_DUTY}
 use Rattle.duty_core.specs.Params.{has_berth}
-use Rattle.duty_core.specs.History.{padding}
-use Rattle.duty_core.specs.RunLaws.{EndsIn}
+use Rattle.duty_core.specs.History.{pad_units, padding}
+use Rattle.duty_core.specs.RestRun.{EndsIn}
 use Rattle.duty_core.specs.Stretch.{IsRest, IsStill, IsBerth, HoldsBerth, HoldsRest}
 use Rattle.duty_core.specs.Day.{IsFirstOfDays, day_number}
 use Rattle.duty_core.specs.Counting.{driving, duty, IsLastEnd, IsDaysBase}
@@ -25,10 +25,10 @@ use Rattle.duty_core.specs.Implies.{Limit, Implies}
 
 -- # United States and Canada
 
--- the run in progress is at least as long, and in a truck with a berth it holds no Off
-pub record IsRunBetter (berth : Bool) (p q : List Activity) : Type 0 where
+-- The run in progress is at least as long, and in a truck with a berth it is all Berth from the first unit of the history on. The first `pad` units of p are its padding, into which the run of a history that is rest throughout reaches: nothing is asked of them.
+pub record IsRunBetter (pad : ℕ) (berth : Bool) (p q : List Activity) : Type 0 where
   pub long : (n k : ℕ) → EndsIn p n → EndsIn q k → k ≤ n
-  pub all_berth : berth ≡ true → (n : ℕ) → EndsIn p n → IsBerth p (length p - n) (length p)
+  pub all_berth : berth ≡ true → (n : ℕ) → EndsIn p n → IsBerth p (max pad (length p - n)) (length p)
 
 -- Now counts run from place `base`: where no declared rest has ended, from the first one.
 abbrev pub IsBaseNow : ℕ → List Activity → (ℕ → Type 0) → ℕ → ℕ → Type 0
@@ -60,8 +60,8 @@ pub record BothWait (full : ℕ) (p : List Activity) (Marked : ℕ → Type 0) (
   pub less_elapsed : length p - b ≤ length q - d
 
 -- the rest in progress, the counts since the base, and the split rest that waits
-pub record IsShiftBetter (full : ℕ) (berth : Bool) (p : List Activity) (Marked : ℕ → Type 0) (q : List Activity) (Other : ℕ → Type 0) : Type 0 where
-  pub run : IsRunBetter berth p q
+pub record IsShiftBetter (full pad : ℕ) (berth : Bool) (p : List Activity) (Marked : ℕ → Type 0) (q : List Activity) (Other : ℕ → Type 0) : Type 0 where
+  pub run : IsRunBetter pad berth p q
   pub base : IsBaseBetter full p Marked q Other
   pub waiting : (NoneWaits full p Marked × NoneWaits full q Other) ⊎ BothWait full p Marked q Other
 
@@ -71,7 +71,7 @@ AreDaysBetter day days restart p q =
     (n a b : ℕ) → 1 ≤ n → n ≤ days → IsDaysBase day n restart p (length p) a → IsDaysBase day n restart q (length q) b → duty p a (length p) ≤ duty q b (length q)
 
 pub record IsUsBetter (params : Params) (first : ℕ) (p : List Activity) (marks : List Mark) (q : List Activity) (others : List Mark) : Type 0 where
-  pub shift : IsShiftBetter US_FULL_REST (has_berth params) p (IsSplitAt params first marks) q (IsSplitAt params first others)
+  pub shift : IsShiftBetter US_FULL_REST (pad_units params) (has_berth params) p (IsSplitAt params first marks) q (IsSplitAt params first others)
   -- driving since the last break is no more, and the stretch without driving that the history ends with is at least as long
   pub unbroken : (a b : ℕ) → IsLastBreak p (length p) a → IsLastBreak q (length q) b → driving p a (length p) ≤ driving q b (length q)
   pub still : (n : ℕ) → n ≤ length q → IsStill q (length q - n) (length q) → IsStill p (length p - n) (length p)
@@ -99,7 +99,7 @@ pub record IsLastDayOff (p : List Activity) (to : ℕ) : Type 0 where
   pub last : (b : ℕ) → CA_DAY_OFF ≤ b → IsRest p (b - CA_DAY_OFF) b → b ≤ length p → b ≤ to
 
 pub record IsCaBetter (params : Params) (first : ℕ) (p : List Activity) (marks : List Mark) (q : List Activity) (others : List Mark) : Type 0 where
-  pub shift : IsShiftBetter CA_FULL_REST (has_berth params) p (IsSplitAt params first marks) q (IsSplitAt params first others)
+  pub shift : IsShiftBetter CA_FULL_REST (pad_units params) (has_berth params) p (IsSplitAt params first marks) q (IsSplitAt params first others)
   pub day : IsDayBetter (day_number params first) p q
   pub today : IsLostBetter (day_number params first) p q (day_number params first (length p))
   pub yesterday : (j : ℕ) → j + 1 ≡ day_number params first (length p) → IsLostBetter (day_number params first) p q j

@@ -12,8 +12,10 @@ mod rule;
 
 pub use activity::{Activity, is_duty, is_rest};
 pub use laws::{
-    counts_have_one_base, deferral_leaves_no_choice, empty_is_lawful, front_is_lawful,
-    full_rest_is_not_split, marks_name_what_is_there, order_fixes_marks, rest_behind_is_lawful,
+    counts_have_one_base, days_follow_minutes, deferral_leaves_no_choice,
+    duty_starts_anew_each_day, empty_is_lawful, front_is_lawful, full_rest_is_not_split,
+    marks_name_what_is_there, order_fixes_marks, rest_after_is_lawful,
+    rest_in_the_berth_is_plainly_better, rules_have_these_numbers,
 };
 pub use limits::{
     AU_5H30_DUTY, AU_5H30_PERIOD, AU_7D_DUTY, AU_7D_PERIOD, AU_7D_REST, AU_8H_DUTY, AU_8H_PERIOD,

@@ -9,10 +9,10 @@ pub const LONGEST_LOG: u32 = 30_240;
 /// The civil minute that no call of a rule book reaches.
 pub const MINUTE_LIMIT: u32 = 100_000_000;
 
-/// The days of rest that stand before and behind each history.
+/// The days of rest that stand before and after each history.
 pub const PADDING_DAYS: u32 = 28;
 
-/// The rest that stands before and behind each history, in minutes.
+/// The rest that stands before and after each history, in minutes.
 pub const PADDING_MINUTES: u32 = PADDING_DAYS * DAY_MINUTES;
 
 /// The greatest number that a count of minutes reaches, where it stays.

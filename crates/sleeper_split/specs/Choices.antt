@@ -23,21 +23,21 @@ sleeps Wait = false
 sleeps Off = false
 sleeps Berth = true
 
--- the unit of duty behind what a run left, where a unit of driving keeps the limits
+-- the unit of duty after what a run left, where a unit of driving keeps the limits
 abbrev pub at_duty : (SplitCount → Bool) → Activity → Bool → SplitCount → List Choice
 at_duty ok x split s = cond (cond (drives x) (ok (after_duty (drives x) s)) true) (choice (after_duty (drives x) s) split ∷ []) []
 
 -- where the run may end so
-abbrev pub behind_run : (SplitCount → Bool) → Activity → Bool → Option SplitCount → List Choice
-behind_run ok x split None = []
-behind_run ok x split (Some s) = at_duty ok x split s
+abbrev pub after_run : (SplitCount → Bool) → Activity → Bool → Option SplitCount → List Choice
+after_run ok x split None = []
+after_run ok x split (Some s) = at_duty ok x split s
 
--- at a unit of duty behind a run: not declared, a split rest where these are allowed, or a full rest
+-- at a unit of duty after a run: not declared, a split rest where these are allowed, or a full rest
 abbrev pub run_choices : SplitRule → Bool → (SplitCount → Bool) → SplitCount → Activity → List Choice
 run_choices rule may ok s x =
-    behind_run ok x false (end_undeclared rule s)
-    ++ (cond may (behind_run ok x true (end_split rule s)) []
-    ++ behind_run ok x false (end_full rule s))
+    after_run ok x false (end_undeclared rule s)
+    ++ (cond may (after_run ok x true (end_split rule s)) []
+    ++ after_run ok x false (end_full rule s))
 
 -- `may` tells whether rests may be split, and `ok` whether a count keeps the limits at a unit of driving.
 abbrev pub choices : SplitRule → Bool → (SplitCount → Bool) → SplitCount → Activity → List Choice

@@ -85,7 +85,7 @@ abbrev pub IsReady : BerthRule → Option WaitingRest → OpenRun → Type 0
 IsReady k None r = Unit {0}
 IsReady k (Some w) r = (r.stretch ≡ r.long) ⊎ (has_pair_berth k w r ≡ true)
 
--- The split rests that wait, the run r in progress behind the first one, and what is used: of the first since its base, and of the second since the rest that waits.
+-- The split rests that wait, the run r in progress after the first one, and what is used: of the first since its base, and of the second since the rest that waits.
 abbrev pub IsWaitNoWorse : SplitRule → OpenRun → Option WaitingRest → Option WaitingRest → Used → Used → Type 0
 IsWaitNoWorse rule r None None base last = Unit {0}
 IsWaitNoWorse rule r None (Some v) base last = IsWithin base last

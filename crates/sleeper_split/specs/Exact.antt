@@ -1,17 +1,12 @@
 -- Which histories the counts allow: those whose split rests are such, and make pairs, and that keep the limits at each unit of driving.
-use Rattle.std.specs.Prelude.{◌≡◌, ◌↔◌, ℕ, ◌+◌, ◌-◌, ◌<◌, ◌≤◌, ◌⊎◌, Bool, true, List, [], ◌∷◌, ◌++◌, length, Contains, AllPairs}
+use Rattle.std.specs.Prelude.{ℕ, ◌+◌, ◌-◌, ◌<◌, ◌≤◌, ◌⊎◌, Bool, List, Contains, AllPairs}
 use Rattle.duty_core.specs.declared.activity.Activity.{Activity}
-use Rattle.duty_core.specs.declared.activity.Activity.TheVariants.{Drive}
 use Rattle.duty_core.specs.declared.limits.TheConstants.{PADDING_MINUTES, US_PAIR_BERTH}
-use Rattle.duty_core.specs.History.{unit_at}
 use Rattle.duty_core.specs.Stretch.{IsBerth, HoldsBerth}
 use Rattle.duty_core.specs.DeclaredRest.{ArePairedAt, IsSplittable}
 use Rattle.sleeper_split.specs.declared.rule.BerthRule.{BerthRule}
 use Rattle.sleeper_split.specs.declared.rule.BerthRule.TheVariants.{SevenInOne, AllOfNext}
 use Rattle.sleeper_split.specs.declared.rule.SplitRule.{SplitRule}
-use Rattle.sleeper_split.specs.declared.count.SplitCount.{SplitCount}
-use Rattle.sleeper_split.specs.Alike.{AreMarkedAlike}
-use Rattle.sleeper_split.specs.Tracks.{Tracks}
 
 -- what a rule must be for the counts to follow it: a full rest is some rest, and no more than the rest before a history
 pub record IsSplitRule (rule : SplitRule) : Type 0 where
@@ -37,12 +32,6 @@ IsSplitBerth AllOfNext p a b = IsBerth p a b
 pub record MaySplit (rule : SplitRule) (may : Bool) (p : List Activity) (from : ℕ) : Type 0 where
   pub run : IsSplittable rule.least rule.full may p from
   pub berth : IsSplitBerth rule.berth p from run.to
-
--- A limit that is asked at each unit of driving, of the counts since the base. It looks at nothing behind its place.
-pub record IsLimit (rule : SplitRule) (ok : SplitCount → Bool) (Holds : List Activity → (ℕ → Type 0) → ℕ → Type 0) : Type 1 where
-  pub local : (p q : List Activity) (Marked Other : ℕ → Type 0) (n i : ℕ) → AreMarkedAlike p Marked q Other n → i < n → Holds p Marked i → Holds q Other i
-  pub idle : (p : List Activity) (Marked : ℕ → Type 0) (i : ℕ) → (unit_at p i ≡ Drive → ⊥) → Holds p Marked i
-  pub meant : (p : List Activity) (Marked : ℕ → Type 0) (s : SplitCount) → Tracks rule (p ++ Drive ∷ []) Marked s → (ok s ≡ true) ↔ Holds (p ++ Drive ∷ []) Marked (length p)
 
 -- Split rests begin at the places `starts`: each may be one, each makes a pair with the next declared rest, and the limit holds at each place.
 pub record KeepsSplits (rule : SplitRule) (may : Bool) (Holds : List Activity → (ℕ → Type 0) → ℕ → Type 0) (p : List Activity) (starts : List ℕ) : Type 0 where

@@ -36,13 +36,13 @@ abbrev pub IsWaitingRest : Option WaitingRest → Type 0
 IsWaitingRest None = Unit {0}
 IsWaitingRest (Some w) = (w.berth ≤ w.long) × (w.long ≤ COUNT_LIMIT)
 
--- What each value keeps. The run in progress lies behind the last full or split rest, and so does the base where none waits.
+-- What each value keeps. The run in progress lies after the last full or split rest, and so does the base where none waits.
 pub record IsSplitCount (s : SplitCount) : Type 0 where
   pub is_run : IsOpenRun s.run
   pub is_base : IsUsed s.base
   pub is_last : IsUsed s.last
   pub later : IsWithin s.last s.base
-  pub behind : s.run.long ≤ s.last.elapsed
+  pub thereafter : s.run.long ≤ s.last.elapsed
   pub is_waiting : IsWaitingRest s.waiting
   pub alone : s.waiting ≡ None → s.base ≡ s.last
 
@@ -60,7 +60,7 @@ none_used = record { driving = 0; duty = 0; elapsed = 0 }
 abbrev pub passed : Used
 passed = record { driving = 0; duty = 0; elapsed = PADDING_MINUTES }
 
--- behind the rest before a history, which is the run in progress
+-- after the rest before a history, which is the run in progress
 abbrev pub fresh_count : SplitCount
 fresh_count = made (record { long = PADDING_MINUTES; stretch = 0; longest = 0 }) passed passed None
 

@@ -6,7 +6,7 @@ use Rattle.duty_core.specs.Activity.{drives, works}
 use Rattle.duty_core.specs.RestRun.{IsLongRun}
 use Rattle.duty_core.specs.Stretch.{IsBerth}
 use Rattle.duty_core.specs.DeclaredRest.{IsSplitRest, IsDeclared, IsLastDeclared}
-use Rattle.duty_core.specs.RunLaws.{EndsIn}
+use Rattle.duty_core.specs.RestRun.{EndsIn}
 use Rattle.sleeper_split.specs.declared.rule.SplitRule.{SplitRule}
 use Rattle.sleeper_split.specs.declared.count.Used.{Used}
 use Rattle.sleeper_split.specs.declared.count.WaitingRest.{WaitingRest}
@@ -65,12 +65,12 @@ pub record IsFresh (rule : SplitRule) (p : List Activity) (Marked : ℕ → Type
   pub counted : rule.full ≤ s.run.long
   pub free : s.waiting ≡ None
 
--- the run in progress is counted, and so is what came behind the last declared rest
+-- the run in progress is counted, and so is what came after the last declared rest
 pub record IsCounted (rule : SplitRule) (p : List Activity) (Marked : ℕ → Type 0) (run : ℕ) (s : SplitCount) : Type 0 where
   pub counted : s.run.long ≡ run
   pub has_last : HasLast rule p Marked s.base s.last s.waiting
 
--- s is the count of the history p, behind its padding, where `Marked` tells at which places the runs that were declared as split rests begin. The history is short enough for each count.
+-- s is the count of the history p, after its padding, where `Marked` tells at which places the runs that were declared as split rests begin. The history is short enough for each count.
 pub record Tracks (rule : SplitRule) (p : List Activity) (Marked : ℕ → Type 0) (s : SplitCount) : Type 0 where
   pub short : length p < COUNT_LIMIT
   pub run : ℕ

@@ -76,7 +76,7 @@ impl Used {
 }
 
 impl SplitCount {
-    /// The counts behind the rest before a history, which is the run in progress.
+    /// The counts after the rest before a history, which is the run in progress.
     pub fn fresh() -> SplitCount
         ensures counts { result ≡ fresh_count }
         ensures kept { IsSplitCount result }
@@ -126,7 +126,7 @@ impl SplitCount {
     }
 
     /// After `n` more minutes of duty, at least one, driving or not: what `n` calls of `duty` give.
-    #[tactic(auto, using(crate::specs::Runs::works_at_once))]
+    #[tactic(auto, using(crate::specs::Laws::Runs::works_at_once))]
     pub fn duty_run(self, driving: bool, n: u32) -> SplitCount
         requires good { IsSplitCount self }
         requires none { run_of self ≡ 0 }
@@ -144,7 +144,7 @@ impl SplitCount {
 
     /// After `n` more minutes of rest, at least one, in the berth or not: what `n` calls of `rest`
     /// give.
-    #[tactic(auto, using(crate::specs::Runs::rests_at_once))]
+    #[tactic(auto, using(crate::specs::Laws::Runs::rests_at_once))]
     pub fn rest_run(self, berth: bool, n: u32) -> SplitCount
         requires good { IsSplitCount self }
         requires some { 1 ≤ n }
@@ -270,9 +270,12 @@ impl SplitCount {
         ensures parts { IfSome result (λ s. s ≡ made run base last waiting) }
         ensures kept { IfSome result IsSplitCount }
     {
-        let behind = run.is_kept() && base.is_kept() && last.is_kept() && run.long <= last.elapsed;
+        let thereafter = run.is_kept()
+            && base.is_kept()
+            && last.is_kept()
+            && run.long <= last.elapsed;
         let later = last.is_within(base) && is_kept(waiting);
-        (behind && later && (waiting.is_some() || base == last)).then_some(SplitCount {
+        (thereafter && later && (waiting.is_some() || base == last)).then_some(SplitCount {
             run,
             base,
             last,

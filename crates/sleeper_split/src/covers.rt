@@ -23,7 +23,7 @@ impl SplitCount {
     /// Whether these counts may stand for `other`, whatever comes next: what the other may still do
     /// by the tour's own rest and by duty, these may do too, and no count is then worse. `may` tells
     /// whether rests may be split.
-    #[tactic(auto, using(crate::specs::CoverTests::covers_decides))]
+    #[tactic(auto, using(crate::specs::Laws::CoverTests::covers_decides))]
     pub fn covers(self, other: SplitCount, rule: SplitRule, may: bool) -> bool
         requires good { IsSplitCount self }
         requires other_good { IsSplitCount other }

@@ -1,7 +1,7 @@
 //! Laws of the counts, told of every history.
-ghost use Rattle.sleeper_split.specs.Laws.{IsUsExact, IsCanadaExact, IsUsTracked, IsCanadaTracked, IsToldOnce, IsPairRules, IsReflexive, IsTransitive, IsLasting, IsSafeToRest, IsBetterCovered};
+ghost use Rattle.sleeper_split.specs.Promises.{IsUsExact, IsCanadaExact, IsUsTracked, IsCanadaTracked, IsToldOnce, IsPairRules, IsReflexive, IsTransitive, IsLasting, IsSafeToRest, IsBetterCovered};
 
-/// Some path of choices along a history of the United States, behind its padding, declares split
+/// Some path of choices along a history of the United States, after its padding, declares split
 /// rests at these places exactly where they may be split rests, each makes a pair with the next
 /// full or split rest, and the window and the driving keep their limits at each minute of driving
 /// (49 CFR 395.3(a)(2), 395.3(a)(3)(i), 395.1(g)(1)).

@@ -10,7 +10,7 @@ use crate::laws::{
 use crate::rule::SplitRule;
 use std::test::Fail;
 
-/// Behind five hours of driving, a rest run in progress that ends with so much time in the berth.
+/// After five hours of driving, a rest run in progress that ends with so much time in the berth.
 fn resting(long: u32, berth: u32, waiting: Option<WaitingRest>) -> Option<SplitCount>
     requires some { 0 < long }
     requires range { long < 900000 }

@@ -8,7 +8,7 @@ pub data Part : Type 0 where
   Said : List ℕ → Part
   Time : ℕ → Part
 
--- The text `before` becomes `now` where the parts are put behind it in their order, each time as `YYYY-MM-DDTHH:MM`.
+-- The text `before` becomes `now` where the parts are put after it in their order, each time as `YYYY-MM-DDTHH:MM`.
 abbrev pub Puts : List Part → (before now : List ℕ) → Type 0
 Puts [] before now = now ≡ before
 Puts (Said bytes ∷ parts) before now = Puts parts (before ++ bytes) now

@@ -50,7 +50,7 @@ impl Text {
         self.bytes.as_slice()
     }
 
-    /// Puts bytes behind the text.
+    /// Puts bytes after the text.
     pub fn push_bytes(&mut self, bytes: &[u8]) -> Result<(), NoMemory>
         ensures { OnOk result (self.new ≡ self.old ++ bytes.now) }
     {
@@ -58,7 +58,7 @@ impl Text {
         Ok(())
     }
 
-    /// Puts a byte behind the text.
+    /// Puts a byte after the text.
     pub fn push_byte(&mut self, byte: u8) -> Result<(), NoMemory>
         ensures { OnOk result (self.new ≡ self.old ++ byte ∷ []) }
     {
@@ -66,14 +66,14 @@ impl Text {
         Ok(())
     }
 
-    /// Puts another text behind it.
+    /// Puts another text after it.
     pub fn push_str(&mut self, text: &str) -> Result<(), NoMemory>
         ensures { OnOk result (self.new ≡ self.old ++ text.now) }
     {
         self.push_bytes(text.as_bytes())
     }
 
-    /// Puts a number behind it, in decimal.
+    /// Puts a number after it, in decimal.
     pub fn push_number(&mut self, alloc: Global, number: u64) -> Result<(), NoMemory>
         ensures { OnOk result (self.new ≡ self.old ++ decimal number) }
     {
@@ -81,7 +81,7 @@ impl Text {
         self.push_str(digits.as_str())
     }
 
-    /// Puts so many minutes behind it, as hours and two digits of minutes.
+    /// Puts so many minutes after it, as hours and two digits of minutes.
     pub fn push_clock(&mut self, alloc: Global, minutes: u32) -> Result<(), NoMemory>
         ensures { OnOk result (self.new ≡ self.old ++ clock_text minutes) }
     {
@@ -91,7 +91,7 @@ impl Text {
         self.push_str(clock.as_str())
     }
 
-    /// Puts so many minutes behind it, as two digits of hours and two of minutes.
+    /// Puts so many minutes after it, as two digits of hours and two of minutes.
     pub fn push_total(&mut self, minutes: u32) -> Result<(), NoMemory>
         requires { minutes < 6_000 }
         ensures { OnOk result (self.new ≡ self.old ++ total_text minutes) }
@@ -107,7 +107,7 @@ impl Text {
         ])
     }
 
-    /// Puts the time of a civil minute behind it, as `YYYY-MM-DDTHH:MM`.
+    /// Puts the time of a civil minute after it, as `YYYY-MM-DDTHH:MM`.
     pub fn push_time(&mut self, at: Minute) -> Result<(), NoMemory>
         requires { at < MINUTES_OF_CENTURY }
         ensures { OnOk result ((time : List ℕ) × IsTimeText time at × (self.new ≡ self.old ++ time)) }
@@ -116,7 +116,7 @@ impl Text {
         self.push_bytes(&time)
     }
 
-    /// Puts bytes behind it, with `?` for each that is not printable ASCII.
+    /// Puts bytes after it, with `?` for each that is not printable ASCII.
     pub fn push_printable(&mut self, alloc: Global, bytes: &[u8]) -> Result<(), NoMemory>
         ensures { OnOk result (self.new ≡ self.old ++ map printable bytes.now) }
     {

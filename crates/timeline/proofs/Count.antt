@@ -8,7 +8,7 @@ use Rattle.duty_core.specs.declared.activity.Activity.{Activity}
 use Rattle.duty_core.specs.History.{between}
 use Rattle.timeline.specs.declared.run.Run.{Run}
 use Rattle.timeline.specs.Runs.{units_of, spread, AreJoined}
-use Rattle.timeline.specs.RunLaws.{length-spread-take, run_some}
+use Rattle.timeline.specs.Laws.RunLaws.{length-spread-take, run_some}
 use Rattle.timeline.proofs.Grow.{spread_push}
 
 take-append : {X : Type 0} (n : ℕ) (xs ys : List X) → take n (xs ++ ys) ≡ take n xs ++ take (n - length xs) ys
@@ -28,7 +28,7 @@ take_of-replicate : {X : Type 0} (m n : ℕ) (x : X) → take m (replicate n x) 
 take_of-replicate m n x =
     sym (take_min m (replicate n x)) ∙ (ap (λ k. take (min m k) (replicate n x)) (length-replicate n x) ∙ take-replicate (min m n) n x (omega arith))
 
--- what a run behind the units adds to those between two places
+-- what a run after the units adds to those between two places
 between_more : (xs : List Activity) (n from to : ℕ) (x : Activity) → between (xs ++ replicate n x) from to ≡ between xs from to ++ replicate (min (to - length xs) n - (from - min to (length xs))) x
 between_more xs n from to x =
     let m = min (to - length xs) n in

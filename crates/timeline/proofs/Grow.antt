@@ -6,9 +6,9 @@ use Rattle.std.proofs.lemmas.List.Concat.{flat_map-append}
 use Rattle.duty_core.specs.declared.activity.Activity.{Activity}
 use Rattle.timeline.specs.declared.run.Run.{Run}
 use Rattle.timeline.specs.Runs.{units_of, spread, AreJoined, BeginsOther, AreApart, EndsIn, EndsOther, AreRuns}
-use Rattle.timeline.specs.RunLaws.{joined_to_length}
+use Rattle.timeline.specs.Laws.RunLaws.{joined_to_length}
 
--- one more run behind the others
+-- one more run after the others
 pub joined_push : (runs : List Run) (new : Run) (from to : ℕ) → AreJoined runs from to → new.from ≡ to → to < new.to → AreJoined (runs ++ new ∷ []) from new.to
 joined_push [] new from to joined begins some = (begins ∙ sym joined, omega (arith, joined), refl)
 joined_push (run ∷ later) new from to joined begins some = (joined.0, joined.1, joined_push later new run.to to joined.2 begins some)
@@ -52,13 +52,13 @@ pub record AreLonger (runs longer : List Run) (n : ℕ) (act : Activity) : Type 
 
 -- the last run, i, is made longer
 pub grown : (runs : List Run) (i : ℕ) (old : Run) (act : Activity) (from to : ℕ) → i ≡ length runs - 1 → EndsIn act runs → old ≡ get_or runs i old → AreRuns runs (spread runs) → length (spread runs) ≡ from → from < to → AreLonger runs (set runs i (record { act = old.act; from = old.from; to = to })) (to - from) act
-grown runs i old act from to last ends is kept behind longer =
+grown runs i old act from to last ends is kept thereafter longer =
     let new : Run = record { act = old.act; from = old.from; to = to } in
     let l : i < length runs = omega (arith, ends.0) in
     let m : length runs ≤ i + 1 = omega (arith, ends.0) in
     let was : runs ≡ take i runs ++ old ∷ [] = sym (take_all (i + 1) runs m) ∙ (take_more runs i old l ∙ ap (λ r. take i runs ++ r ∷ []) (sym is)) in
     let now : set runs i new ≡ take i runs ++ new ∷ [] = set_split runs i new l ∙ ap (λ xs. take i runs ++ new ∷ xs) (drop_all (suc i) runs (omega arith)) in
-    let j : AreJoined (take i runs ++ old ∷ []) 0 from = subst (λ xs. AreJoined xs 0 from) was (subst (λ n. AreJoined runs 0 n) behind kept.joined) in
+    let j : AreJoined (take i runs ++ old ∷ []) 0 from = subst (λ xs. AreJoined xs 0 from) was (subst (λ n. AreJoined runs 0 n) thereafter kept.joined) in
     let a : AreApart (take i runs ++ old ∷ []) = subst AreApart was kept.apart in
     let same : old.act ≡ act = ap (λ r. r.act) is ∙ (ap (λ k. (get_or runs k old).act) last ∙ ends.1 old) in
     record {
@@ -72,12 +72,12 @@ grown runs i old act from to last ends is kept behind longer =
 
 -- one more run, of another activity than the last
 pub pushed : (runs : List Run) (act : Activity) (from to : ℕ) → EndsOther act runs → AreRuns runs (spread runs) → length (spread runs) ≡ from → from < to → AreLonger runs (runs ++ record { act = act; from = from; to = to } ∷ []) (to - from) act
-pushed runs act from to other kept behind some =
+pushed runs act from to other kept thereafter some =
     let new : Run = record { act = act; from = from; to = to } in
     let different : (i : ℕ) → suc i ≡ length runs → (d : Run) → (get_or runs i d).act ≢ act = λ i e d. let f : length runs - 1 ≡ i = omega arith in subst (λ k. (get_or runs k d).act ≢ act) f (other (omega arith) d) in
     record {
       whole = record {
-        joined = joined_to_length (runs ++ new ∷ []) to (joined_push runs new 0 from (subst (λ n. AreJoined runs 0 n) behind kept.joined) refl some);
+        joined = joined_to_length (runs ++ new ∷ []) to (joined_push runs new 0 from (subst (λ n. AreJoined runs 0 n) thereafter kept.joined) refl some);
         apart = apart_push runs new different kept.apart;
         spread = refl;
       };

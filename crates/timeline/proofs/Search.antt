@@ -6,7 +6,7 @@ use Rattle.std.proofs.lemmas.Bool.Decides.{nat_tests}
 use Rattle.duty_core.specs.declared.activity.Activity.TheVariants.{Off}
 use Rattle.timeline.specs.declared.run.Run.{Run}
 use Rattle.timeline.specs.Runs.{spread, AreJoined, AreRuns}
-use Rattle.timeline.specs.RunLaws.{run_ends, unit_of_run}
+use Rattle.timeline.specs.Laws.RunLaws.{run_ends, unit_of_run}
 
 -- the runs' ends rise
 pub ends_rise : (runs : List Run) (from to : ℕ) → AreJoined runs from to → IsNonDecreasingBy (λ run. run.to) runs
@@ -23,14 +23,14 @@ stops [] from to k joined low high past = omega (arith, joined)
 stops (run ∷ later) from to k joined low high past =
     stops later run.to to k joined.2 (past 0 run (omega arith)) high (λ j d l. past (suc j) d (omega arith))
 
--- the first run that ends behind the place begins before it
+-- the first run that ends after the place begins before it
 begins_low : (runs : List Run) (from to k i : ℕ) (d : Run) → AreJoined runs from to → i < length runs → from ≤ k → ((j : ℕ) (e : Run) → j < i → (get_or runs j e).to ≤ k) → (get_or runs i d).from ≤ k
 begins_low [] from to k i d joined inside low past = absurd (omega arith)
 begins_low (run ∷ later) from to k zero d joined inside low past = omega (arith, joined.0)
 begins_low (run ∷ later) from to k (suc i) d joined inside low past =
     begins_low later run.to to k i d joined.2 (omega arith) (past 0 run (omega arith)) (λ j e l. past (suc j) e (omega arith))
 
--- the place is in the first run that ends behind it
+-- the place is in the first run that ends after it
 pub record IsFound (runs : List Run) (k i : ℕ) (d : Run) : Type 0 where
   pub inside : i < length runs
   pub unit : get_or (spread runs) k Off ≡ (get_or runs i d).act

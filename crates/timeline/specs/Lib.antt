@@ -1,3 +1,3 @@
 pub mod Runs
 pub mod Kinds
-pub mod RunLaws
+pub mod Laws

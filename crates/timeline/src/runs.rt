@@ -12,11 +12,11 @@ use crate::kind::CountOf;
 use crate::run::Run;
 use duty_core::Activity;
 
-/// Puts the units from `from` up to `to` behind the runs, into the last one where it has the same
+/// Puts the units from `from` up to `to` after the runs, into the last one where it has the same
 /// activity. `Memory` if there is none for one more run; then the runs stay as they were.
 pub fn extend(runs: &mut Vec<Run>, act: Activity, from: u32, to: u32) -> Result<(), TimelineFault>
     requires runs { AreRuns runs.old.items (spread runs.old.items) }
-    requires behind { length (spread runs.old.items) ≡ from }
+    requires thereafter { length (spread runs.old.items) ≡ from }
     requires some { from < to }
     ensures runs { OnOk result (AreRuns runs.new.items (spread runs.new.items)) }
     ensures units { OnOk result (spread runs.new.items ≡ spread runs.old.items ++ replicate (to - from) act) }

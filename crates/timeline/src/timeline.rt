@@ -45,7 +45,7 @@ impl Timeline {
         }
     }
 
-    /// Puts `n` units of the activity behind the history.
+    /// Puts `n` units of the activity after the history.
     ///
     /// `TooLong` exactly where it would then be longer than `LONGEST_HISTORY`, and `Memory` where
     /// there is none for one more run. After either the history is as it was.

@@ -12,29 +12,29 @@ use Rattle.tour_model.specs.Window.{first_open}
 use Rattle.tour_model.specs.Stop.{leaves_at}
 use Rattle.tour_model.specs.Word.{service_word, word_from}
 use Rattle.tour_model.specs.Eta.{end_after}
-use Rattle.tour_model.specs.ServeLaws.{AreNumbered}
+use Rattle.tour_model.specs.Laws.ServeLaws.{AreNumbered}
 
 drop_front : (m i j : ℕ) (y : Piece) (ps : List Piece) → i + j ≡ m → drop i (replicate m y ++ ps) ≡ replicate j y ++ ps
 drop_front m zero j y ps e = ap (λ n. replicate n y ++ ps) (let f : m ≡ j = omega arith in f)
 drop_front zero (suc i) j y ps e = absurd (omega arith)
 drop_front (suc m) (suc i) j y ps e = drop_front m i j y ps (omega arith)
 
-drop_behind : (m i j : ℕ) (y : Piece) (ps : List Piece) → i ≡ m + j → drop i (replicate m y ++ ps) ≡ drop j ps
-drop_behind zero i j y ps e = ap (λ n. drop n ps) (let f : i ≡ j = omega arith in f)
-drop_behind (suc m) zero j y ps e = absurd (omega arith)
-drop_behind (suc m) (suc i) j y ps e = drop_behind m i j y ps (omega arith)
+drop_after : (m i j : ℕ) (y : Piece) (ps : List Piece) → i ≡ m + j → drop i (replicate m y ++ ps) ≡ drop j ps
+drop_after zero i j y ps e = ap (λ n. drop n ps) (let f : i ≡ j = omega arith in f)
+drop_after (suc m) zero j y ps e = absurd (omega arith)
+drop_after (suc m) (suc i) j y ps e = drop_after m i j y ps (omega arith)
 
-drop_behind_service : (m i j number : ℕ) (ps : List Piece) → i ≡ m + j → drop i (service_word number m ++ ps) ≡ drop j ps
-drop_behind_service zero i j number ps e = ap (λ n. drop n ps) (let f : i ≡ j = omega arith in f)
-drop_behind_service (suc m) zero j number ps e = absurd (omega arith)
-drop_behind_service (suc m) (suc i) j number ps e = drop_behind m i j (piece.Serve number false) ps (omega arith)
+drop_after_service : (m i j number : ℕ) (ps : List Piece) → i ≡ m + j → drop i (service_word number m ++ ps) ≡ drop j ps
+drop_after_service zero i j number ps e = ap (λ n. drop n ps) (let f : i ≡ j = omega arith in f)
+drop_after_service (suc m) zero j number ps e = absurd (omega arith)
+drop_after_service (suc m) (suc i) j number ps e = drop_after m i j (piece.Serve number false) ps (omega arith)
 
--- what is left behind a stop
+-- what is left after a stop
 pub left_past : (s : Stop) (number left : ℕ) (stops : List Stop) → s.drive + s.service ≤ left →
     drop left (word_from number (s ∷ stops)) ≡ drop (left - (s.drive + s.service)) (word_from (number + 1) stops)
 left_past s number left stops l =
-    drop_behind s.drive left (left - s.drive) (piece.Drive number) (service_word number s.service ++ word_from (number + 1) stops) (omega arith)
-    ∙ drop_behind_service s.service (left - s.drive) (left - (s.drive + s.service)) number (word_from (number + 1) stops) (omega arith)
+    drop_after s.drive left (left - s.drive) (piece.Drive number) (service_word number s.service ++ word_from (number + 1) stops) (omega arith)
+    ∙ drop_after_service s.service (left - s.drive) (left - (s.drive + s.service)) number (word_from (number + 1) stops) (omega arith)
 
 end_drives : (windows : ℕ → List Window) (number m k j : ℕ) (ps : List Piece) → k + m ≡ j → end_after windows k (replicate m (piece.Drive number) ++ ps) ≡ end_after windows j ps
 end_drives windows number zero k j ps e = ap (λ n. end_after windows n ps) (let f : k ≡ j = omega arith in f)
@@ -55,7 +55,7 @@ in_service windows s zero number at left ps e l d w = absurd (omega arith)
 in_service windows s (suc more) number at left ps e l d w =
     let j = left - s.drive - 1 in
     let is : left ≡ s.drive + suc j = omega arith in
-    ap (end_after windows at) (drop_behind s.drive left (suc j) (piece.Drive number) (service_word number (suc more) ++ ps) is)
+    ap (end_after windows at) (drop_after s.drive left (suc j) (piece.Drive number) (service_word number (suc more) ++ ps) is)
     ∙ (ap (end_after windows at) (drop_front more j (more - j) (piece.Serve number false) ps (omega arith))
     ∙ (end_serves windows number (more - j) at (at + (s.drive + s.service - left)) ps (omega arith)
     ∙ sym (ap (λ t. option_and_then (λ a. end_after windows a ps) (cond t (Some (at + (s.drive + s.service - left))) (option_map (λ begins. begins + s.service) (first_open s.windows (at + (s.drive - left))))))
@@ -74,7 +74,7 @@ on_the_way windows s (suc more) number at left ps e l w d =
     ∙ sym (ap (λ t. option_and_then (λ a. end_after windows a ps) (cond t (Some (at + (s.drive + s.service - left))) (option_map (λ begins. begins + s.service) (first_open s.windows (at + (s.drive - left))))))
     (le-ltb s.drive left d)))))
 
--- The end is that of the stops behind, from where the stop in progress is left.
+-- The end is that of the stops after, from where the stop in progress is left.
 pub end_here : (windows : ℕ → List Window) (s : Stop) (number at left : ℕ) (stops : List Stop) → 1 ≤ s.service → windows number ≡ s.windows → left < s.drive + s.service →
     end_after windows at (drop left (word_from number (s ∷ stops))) ≡ option_and_then (λ a. end_after windows a (word_from (number + 1) stops)) (leaves_at s at left)
 end_here windows s number at left stops l w b = elim (cases_lt s.drive left) [

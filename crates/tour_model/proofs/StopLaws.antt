@@ -11,10 +11,10 @@ use Rattle.tour_model.specs.declared.window.Window.{Window}
 use Rattle.tour_model.specs.declared.stop.Stop.{Stop}
 use Rattle.tour_model.specs.declared.tour.Tour.{Tour}
 use Rattle.tour_model.specs.Window.{is_within, is_open, first_open}
-use Rattle.tour_model.specs.WindowLaws.{open_is}
+use Rattle.tour_model.specs.Laws.WindowLaws.{open_is}
 use Rattle.tour_model.specs.Tour.{IsWindow, IsStop, IsTour}
 use Rattle.tour_model.specs.Stop.{IsSmall, leaves_at}
-use Rattle.tour_model.specs.LengthLaws.{tour_grid_some}
+use Rattle.tour_model.specs.Laws.LengthLaws.{tour_grid_some}
 
 -- as many steps as minutes at most
 few_steps : (a grid n : ℕ) → 1 ≤ grid → a * grid ≤ n → a ≤ n

@@ -5,9 +5,5 @@ pub mod Word
 pub mod Way
 pub mod Eta
 pub mod Schedule
-pub mod WindowLaws
-pub mod WayLaws
-pub mod ServeLaws
-pub mod EtaLaws
-pub mod LengthLaws
 pub mod Layer
+pub mod Laws

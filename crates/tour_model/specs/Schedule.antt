@@ -44,7 +44,7 @@ depart_from n (x ∷ xs) = if progresses x then Some n else depart_from (n + 1) 
 abbrev pub duration : List Activity → ℕ
 duration schedule = length schedule - unwrap_or (depart_from 0 schedule) 0
 
--- the log, whose last unit ends where the tour starts, and behind it the schedule
+-- the log, whose last unit ends where the tour starts, and after it the schedule
 abbrev pub history_of : Tour → List Activity → List Activity → List Activity
 history_of tour log schedule = log ++ units_of (step_units tour) schedule
 
@@ -52,7 +52,7 @@ history_of tour log schedule = log ++ units_of (step_units tour) schedule
 abbrev pub log_start : Tour → List Activity → ℕ
 log_start tour log = tour.start - unit_minutes tour.params * length log
 
--- a schedule that serves the tour, and whose history behind the log is lawful
+-- a schedule that serves the tour, and whose history after the log is lawful
 pub record IsSolution (tour : Tour) (log schedule : List Activity) : Type 0 where
   pub serves : ServesTour tour schedule
   pub lawful : IsLawful tour.params (log_start tour log) (history_of tour log schedule)

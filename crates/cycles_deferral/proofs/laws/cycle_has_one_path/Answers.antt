@@ -1,7 +1,7 @@
 use Rattle.std.proofs.Common.{◌++◌}
 use Rattle.cycles_deferral.specs.Paths.{ca_padding}
-use Rattle.cycles_deferral.specs.CycleExact.{cycle_once, cycle_leads}
-use Rattle.cycles_deferral.specs.Room.{has_room}
+use Rattle.cycles_deferral.specs.Laws.CycleExact.{cycle_once, cycle_leads}
+use Rattle.cycles_deferral.specs.Laws.Room.{has_room}
 use Rattle.cycles_deferral.proofs.laws.cycle_has_one_path.Goals as goal
 
 pub returns-clause-one : goal.returns-clause-one

@@ -1,4 +1,4 @@
-use Rattle.cycles_deferral.specs.CycleCovers.{cycle_covers_self, cycle_covers_over, cycle_simulates, cycle_rest_ahead}
+use Rattle.cycles_deferral.specs.Laws.CycleCovers.{cycle_covers_self, cycle_covers_over, cycle_simulates, cycle_rest_ahead}
 use Rattle.cycles_deferral.proofs.laws.cycle_stands_on.Goals as goal
 
 pub returns-clause-same : goal.returns-clause-same

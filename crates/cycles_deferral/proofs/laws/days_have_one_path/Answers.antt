@@ -1,5 +1,5 @@
 use Rattle.duty_core.specs.declared.params.Params.TheVariants.{Hvnl}
-use Rattle.cycles_deferral.specs.DaysExact.{days_once, days_lead}
+use Rattle.cycles_deferral.specs.Laws.DaysExact.{days_once, days_lead}
 use Rattle.cycles_deferral.proofs.laws.days_have_one_path.Goals as goal
 
 pub returns-clause-one : goal.returns-clause-one

@@ -1,4 +1,4 @@
-use Rattle.cycles_deferral.specs.DayCovers.{days_cover_self, days_cover_over, cover_begun, days_simulate, days_rest_ahead}
+use Rattle.cycles_deferral.specs.Laws.DayCovers.{days_cover_self, days_cover_over, cover_begun, days_simulate, days_rest_ahead}
 use Rattle.cycles_deferral.proofs.laws.days_stand_on.Goals as goal
 
 pub returns-clause-same : goal.returns-clause-same

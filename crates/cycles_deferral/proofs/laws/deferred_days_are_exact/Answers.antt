@@ -1,4 +1,4 @@
-use Rattle.cycles_deferral.specs.DaysExact.{days_exact_defer}
+use Rattle.cycles_deferral.specs.Laws.DaysExact.{days_exact_defer}
 use Rattle.cycles_deferral.proofs.laws.deferred_days_are_exact.Goals as goal
 
 pub returns : goal.returns

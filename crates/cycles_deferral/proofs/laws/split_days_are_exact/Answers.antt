@@ -1,5 +1,5 @@
 use Rattle.duty_core.specs.declared.params.Params.TheVariants.{Hvnl}
-use Rattle.cycles_deferral.specs.DaysExact.{days_exact_split}
+use Rattle.cycles_deferral.specs.Laws.DaysExact.{days_exact_split}
 use Rattle.cycles_deferral.proofs.laws.split_days_are_exact.Goals as goal
 
 pub returns : goal.returns

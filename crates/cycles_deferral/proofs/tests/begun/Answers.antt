@@ -1,5 +1,5 @@
 use Rattle.std.proofs.Common.{true, refl, inl}
-use Rattle.cycles_deferral.specs.Room.{room_on}
+use Rattle.cycles_deferral.specs.Laws.Room.{room_on}
 use Rattle.cycles_deferral.proofs.tests.begun.Goals as goal
 
 pub unit-requires-clause-room : goal.unit-requires-clause-room

@@ -1,7 +1,7 @@
 use Rattle.std.proofs.Common.{arith}
 use Rattle.duty_core.specs.Day.{day_number}
-use Rattle.duty_core.specs.UniqueLaws.{last_end_unique, last_break_unique, days_base_unique, first_of_days_unique}
-use Rattle.duty_core.specs.CountBaseLaws.{has_base_at, one_base_at, has_end_at, has_days_at, has_first_at, has_break_at}
+use Rattle.duty_core.specs.Laws.UniqueLaws.{last_end_unique, last_break_unique, days_base_unique, first_of_days_unique}
+use Rattle.duty_core.specs.Laws.CountBaseLaws.{has_base_at, one_base_at, has_end_at, has_days_at, has_first_at, has_break_at}
 use Rattle.duty_core.proofs.laws.counts_have_one_base.Goals as goal
 
 pub returns : goal.returns

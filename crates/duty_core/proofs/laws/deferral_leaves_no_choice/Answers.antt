@@ -1,4 +1,4 @@
-use Rattle.duty_core.specs.MarkLaws.{defer_days, defer_one_list}
+use Rattle.duty_core.specs.Laws.MarkLaws.{defer_days, defer_one_list}
 use Rattle.duty_core.proofs.laws.deferral_leaves_no_choice.Goals as goal
 
 pub returns : goal.returns

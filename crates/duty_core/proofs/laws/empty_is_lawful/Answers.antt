@@ -1,5 +1,5 @@
 use Rattle.std.proofs.Common.{[]}
-use Rattle.duty_core.specs.RestLaws.{empty_keeps}
+use Rattle.duty_core.specs.Laws.RestLaws.{empty_keeps}
 use Rattle.duty_core.proofs.laws.empty_is_lawful.Goals as goal
 
 pub returns : goal.returns

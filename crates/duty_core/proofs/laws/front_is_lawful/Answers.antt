@@ -1,4 +1,4 @@
-use Rattle.duty_core.specs.BookLaws.{front_keeps, front_lawful}
+use Rattle.duty_core.specs.Laws.BookLaws.{front_keeps, front_lawful}
 use Rattle.duty_core.proofs.laws.front_is_lawful.Goals as goal
 
 pub returns : goal.returns

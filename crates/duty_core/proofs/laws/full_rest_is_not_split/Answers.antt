@@ -1,5 +1,5 @@
 use Rattle.duty_core.specs.Marks.{IsSplitAt}
-use Rattle.duty_core.specs.MarkLaws.{us_split_not_full, ca_split_not_full, split_not_full}
+use Rattle.duty_core.specs.Laws.MarkLaws.{us_split_not_full, ca_split_not_full, split_not_full}
 use Rattle.duty_core.proofs.laws.full_rest_is_not_split.Goals as goal
 
 pub returns : goal.returns

@@ -1,4 +1,4 @@
-use Rattle.duty_core.specs.MarkLaws.{split_names_run, split_has_berth, defer_has_no_split, deferral_names_day, deferral_has_way, au_unmarked}
+use Rattle.duty_core.specs.Laws.MarkLaws.{split_names_run, split_has_berth, defer_has_no_split, deferral_names_day, deferral_has_way, au_unmarked}
 use Rattle.duty_core.proofs.laws.marks_name_what_is_there.Goals as goal
 
 pub returns : goal.returns

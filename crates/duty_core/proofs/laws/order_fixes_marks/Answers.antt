@@ -1,4 +1,4 @@
-use Rattle.duty_core.specs.MarkListLaws.{marks_in_order, same_marks}
+use Rattle.duty_core.specs.Laws.MarkListLaws.{marks_in_order, same_marks}
 use Rattle.duty_core.proofs.laws.order_fixes_marks.Goals as goal
 
 pub returns : goal.returns

@@ -1,7 +1,7 @@
 use Rattle.sleeper_split.specs.declared.rule.TheConstants.SplitRule.{CANADA}
-use Rattle.sleeper_split.specs.Laws.{canada_keeps, MeetsCanadaShift}
-use Rattle.sleeper_split.specs.CountryLaws.{canada_rule, canada_limit}
-use Rattle.sleeper_split.specs.ExactLaws.{split_exact}
+use Rattle.sleeper_split.specs.Promises.{canada_keeps, MeetsCanadaShift}
+use Rattle.sleeper_split.specs.Laws.CountryLaws.{canada_rule, canada_limit}
+use Rattle.sleeper_split.specs.Laws.ExactLaws.{split_exact}
 use Rattle.sleeper_split.proofs.laws.is_exact_in_canada.Goals as goal
 
 pub returns : goal.returns

@@ -1,7 +1,7 @@
 use Rattle.sleeper_split.specs.declared.rule.TheConstants.SplitRule.{US}
-use Rattle.sleeper_split.specs.Laws.{us_keeps, MeetsUsShift}
-use Rattle.sleeper_split.specs.CountryLaws.{us_rule, us_limit}
-use Rattle.sleeper_split.specs.ExactLaws.{split_exact}
+use Rattle.sleeper_split.specs.Promises.{us_keeps, MeetsUsShift}
+use Rattle.sleeper_split.specs.Laws.CountryLaws.{us_rule, us_limit}
+use Rattle.sleeper_split.specs.Laws.ExactLaws.{split_exact}
 use Rattle.sleeper_split.proofs.laws.is_exact_in_united_states.Goals as goal
 
 pub returns : goal.returns

@@ -1,4 +1,4 @@
-use Rattle.sleeper_split.specs.ChoiceLaws.{declares_once}
+use Rattle.sleeper_split.specs.Laws.ChoiceLaws.{declares_once}
 use Rattle.sleeper_split.proofs.laws.is_told_by_places.Goals as goal
 
 pub returns : goal.returns

@@ -1,4 +1,4 @@
-use Rattle.sleeper_split.specs.CoverLaws.{choices_ahead}
+use Rattle.sleeper_split.specs.Laws.CoverLaws.{choices_ahead}
 use Rattle.sleeper_split.proofs.laws.rests_safely.Goals as goal
 
 pub returns : goal.returns

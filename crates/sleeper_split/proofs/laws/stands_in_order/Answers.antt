@@ -1,5 +1,5 @@
-use Rattle.sleeper_split.specs.BetterLaws.{us_pair_rule, canada_pair_rule}
-use Rattle.sleeper_split.specs.CoverLaws.{covers_same, covers_over}
+use Rattle.sleeper_split.specs.Laws.BetterLaws.{us_pair_rule, canada_pair_rule}
+use Rattle.sleeper_split.specs.Laws.CoverLaws.{covers_same, covers_over}
 use Rattle.sleeper_split.proofs.laws.stands_in_order.Goals as goal
 
 pub returns-clause-rules : goal.returns-clause-rules

@@ -1,4 +1,4 @@
-use Rattle.sleeper_split.specs.CoverLaws.{choices_cover}
+use Rattle.sleeper_split.specs.Laws.CoverLaws.{choices_cover}
 use Rattle.sleeper_split.proofs.laws.stands_on.Goals as goal
 
 pub returns : goal.returns

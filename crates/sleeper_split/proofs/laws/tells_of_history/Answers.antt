@@ -1,6 +1,6 @@
 use Rattle.sleeper_split.specs.declared.rule.TheConstants.SplitRule.{US, CANADA}
-use Rattle.sleeper_split.specs.CountryLaws.{us_rule, canada_rule}
-use Rattle.sleeper_split.specs.ExactLaws.{split_tracks}
+use Rattle.sleeper_split.specs.Laws.CountryLaws.{us_rule, canada_rule}
+use Rattle.sleeper_split.specs.Laws.ExactLaws.{split_tracks}
 use Rattle.sleeper_split.proofs.laws.tells_of_history.Goals as goal
 
 pub returns-clause-us : goal.returns-clause-us

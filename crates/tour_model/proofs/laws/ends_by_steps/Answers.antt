@@ -1,4 +1,4 @@
-use Rattle.tour_model.specs.EtaLaws.{eta_full, eta_before}
+use Rattle.tour_model.specs.Laws.EtaLaws.{eta_full, eta_before}
 use Rattle.tour_model.proofs.laws.ends_by_steps.Goals as goal
 
 pub returns : goal.returns

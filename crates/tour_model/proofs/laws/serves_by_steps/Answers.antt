@@ -1,5 +1,5 @@
-use Rattle.tour_model.specs.ServeLaws.{way_serves, serves_way, serves_done}
-use Rattle.tour_model.specs.LengthLaws.{serves_short, history_short}
+use Rattle.tour_model.specs.Laws.ServeLaws.{way_serves, serves_way, serves_done}
+use Rattle.tour_model.specs.Laws.LengthLaws.{serves_short, history_short}
 use Rattle.tour_model.proofs.laws.serves_by_steps.Goals as goal
 
 pub returns : goal.returns

@@ -1,6 +1,6 @@
 use Rattle.std.proofs.Common.{◌≡◌, true, subst}
 use Rattle.allowance.specs.Allow.{is_held}
-use Rattle.allowance.specs.AllowLaws.{held_test}
+use Rattle.allowance.specs.Laws.AllowLaws.{held_test}
 use Rattle.allowance.proofs.allowances.Allowances.are_held.Goals as goal
 
 pub returns-clause-test : goal.returns-clause-test

@@ -1,6 +1,6 @@
 use Rattle.std.proofs.Common.{sym, subst}
 use Rattle.allowance.specs.Allow.{IsHeld}
-use Rattle.allowance.specs.AllowLaws.{held_from}
+use Rattle.allowance.specs.Laws.AllowLaws.{held_from}
 use Rattle.allowance.proofs.allowances.Allowances.from_parts.Goals as goal
 
 pub invariant_of-result : goal.invariant_of-result

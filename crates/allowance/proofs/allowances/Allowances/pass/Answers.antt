@@ -1,7 +1,7 @@
 use Rattle.std.proofs.Common.{sym, ap, subst, ◌∙◌}
 use Rattle.std.specs.Prelude.{filter}
 use Rattle.allowance.specs.Allow.{IsHeld, is_open, waits}
-use Rattle.allowance.specs.AllowLaws.{held_passed}
+use Rattle.allowance.specs.Laws.AllowLaws.{held_passed}
 use Rattle.allowance.proofs.Steps.{passed_is}
 use Rattle.allowance.proofs.Futures.{passes}
 use Rattle.allowance.proofs.allowances.Allowances.pass.Goals as goal

@@ -1,7 +1,8 @@
 use Rattle.std.proofs.Common.{◌∙◌, ap, w32}
 use Rattle.std.proofs.lemmas.Int.{to_z-of_z}
 use Rattle.cycles_deferral.specs.DayMachine.{days_begun}
-use Rattle.cycles_deferral.specs.DayRuns.{days_at_once, days_run_at_once}
+use Rattle.cycles_deferral.specs.DayRuns.{days_at_once}
+use Rattle.cycles_deferral.specs.Laws.DayRuns.{days_run_at_once}
 use Rattle.cycles_deferral.proofs.days.CanadaDays.run.Goals as goal
 
 -- many minutes at once are what they are one by one

@@ -1,6 +1,6 @@
 use Rattle.std.proofs.Common.{◌≡◌, ℕ, ◌+◌, ◌-◌, ◌<◌, ◌≤◌, length, refl, sym, ◌∙◌, ap, subst, arith, zero, suc}
 use Rattle.day_sums.specs.Sums.{first_days, leaves_no_less}
-use Rattle.day_sums.specs.LeftLaws.{one_passes, one_fails}
+use Rattle.day_sums.specs.Laws.LeftLaws.{one_passes, one_fails}
 use Rattle.day_sums.proofs.sums.DaySums.leaves_no_less.Goals as goal
 
 -- all the days are left

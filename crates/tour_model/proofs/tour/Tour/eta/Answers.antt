@@ -3,8 +3,8 @@ use Rattle.std.specs.Prelude.{IfNone}
 use Rattle.tour_model.specs.Word.{word_from, windows_at}
 use Rattle.tour_model.specs.Way.{HasNoWay}
 use Rattle.tour_model.specs.Eta.{end_after, eta_of}
-use Rattle.tour_model.specs.EtaLaws.{eta_earliest, eta_none}
-use Rattle.tour_model.specs.ServeLaws.{numbered}
+use Rattle.tour_model.specs.Laws.EtaLaws.{eta_earliest, eta_none}
+use Rattle.tour_model.specs.Laws.ServeLaws.{numbered}
 use Rattle.tour_model.specs.Stop.{leaves_at}
 use Rattle.tour_model.proofs.StopLaws.{stop_here, stop_of, leaves_soon}
 use Rattle.tour_model.proofs.LeaveLaws.{end_now, end_later, numbers_later, end_over, end_never, end_then}

@@ -2,7 +2,7 @@ use Rattle.std.proofs.Common.{◌≡◌, ◌+◌, ◌*◌, ◌≤◌, drop}
 use Rattle.tour_model.specs.declared.limits.TheConstants.{STEP_LIMIT, LONGEST_TOUR}
 use Rattle.tour_model.specs.Word.{windows_at, word_from}
 use Rattle.tour_model.specs.Eta.{end_after, eta_of}
-use Rattle.tour_model.specs.ServeLaws.{AreNumbered}
+use Rattle.tour_model.specs.Laws.ServeLaws.{AreNumbered}
 use Rattle.tour_model.proofs.tour.Tour.eta.Given as goal
 
 abbrev pub invariant-loop-stop : goal.invariant-loop-stop

@@ -1,0 +1,19 @@
+-- What follows from the definitions, for the contracts and proofs of this crate and of those above it.
+pub mod LostSteps
+pub mod Tracks
+pub mod Knows
+pub mod DeferLaws
+pub mod DayRuns
+pub mod DaySteps
+pub mod DayPaths
+pub mod DaysExact
+pub mod Counts
+pub mod CycleRuns
+pub mod CycleExact
+pub mod CountryDays
+pub mod Room
+pub mod DayCovers
+pub mod CycleCovers
+pub mod BetterDays
+pub mod BetterCycle
+pub mod BetterLaws

@@ -1,0 +1,2 @@
+pub mod DayDuty
+pub mod RestIsBetter

@@ -1,0 +1,20 @@
+-- What follows from the definitions, for the contracts and proofs of this crate and of those above it.
+pub mod HistoryLaws
+pub mod RunLaws
+pub mod Day
+pub mod DayLaws
+pub mod RuleLaws
+pub mod LostLaws
+pub mod PrefixLaws
+pub mod UniqueLaws
+pub mod CountLaws
+pub mod AuFrontLaws
+pub mod LostFrontLaws
+pub mod ExistLaws
+pub mod MarkListLaws
+pub mod FrontLaws
+pub mod BookLaws
+pub mod BetweenLaws
+pub mod RestLaws
+pub mod MarkLaws
+pub mod CountBaseLaws
