@@ -62,3 +62,9 @@ abbrev pub Counts : Result Unit SinkFault → ℕ → ℕ → Type 0
 Counts (Ok _) before now = now ≡ before
 Counts (Err sink_fault.Memory) before now = now ≡ before
 Counts (Err sink_fault.Failed) before now = before ≤ now × Rose before now
+
+-- A send is counted where it was answered `Ok` or `Failed`. After `Memory` the count stays.
+abbrev pub CountsSend : Result Unit SinkFault → ℕ → ℕ → Type 0
+CountsSend (Ok _) before now = now ≡ raised before
+CountsSend (Err sink_fault.Memory) before now = now ≡ before
+CountsSend (Err sink_fault.Failed) before now = now ≡ raised before

@@ -1,5 +1,6 @@
 //! The system's files as a desk, which tells nothing of content.
-ghost use Rattle.std.specs.Prelude.{◌≡◌, ◌≤◌, IfOk, IfSome, None, length, take};
+ghost use Rattle.std.specs.Prelude.{◌≡◌, ◌≤◌, Err, IfOk, IfSome, None, OnErr, false, length, take};
+ghost use Rattle.outside.specs.declared.desk.DeskFault.TheVariants.{Failed};
 ghost use Rattle.outside.specs.Disk.{no_faults};
 
 use crate::desk::{Desk, DeskFault};
@@ -7,7 +8,7 @@ use crate::stdout::write_whole;
 use crate::word::Word;
 use std::alloc::Global;
 use std::fs;
-use std::io::Read;
+use std::io::{self, Read, Write};
 use std::marker::Model;
 use std::rt::Files;
 
@@ -75,30 +76,34 @@ fn read_start<R: Read>(alloc: Global, reader: &mut R, limit: usize) -> Result<Ve
     Ok(bytes)
 }
 
-/// The first `limit` bytes of a file. `Failed` where it cannot be opened or read.
-fn read_file<R: Files>(
-    rt: &R,
+/// The first `limit` bytes of what was opened. `Failed` where it could not be opened, or a read fails.
+fn read_opened<R: Read + Drop>(
     alloc: Global,
-    name: &str,
+    opened: io::Result<R>,
     limit: usize,
 ) -> Result<Vec<u8>, DeskFault>
-    ensures { IfOk result (λ bytes. length bytes.items ≤ limit) }
+    ensures bytes { IfOk result (λ bytes. IfOk opened (λ reader. IfSome (R.remaining reader) (λ all. bytes.items ≡ take limit all))) }
+    ensures bound { IfOk result (λ bytes. length bytes.items ≤ limit) }
+    ensures unopened { OnErr opened (result ≡ Err Failed) }
 {
-    match fs::open(rt, name) {
-        Ok(file) => {
-            let mut file = file;
-            read_start(alloc, &mut file, limit)
+    match opened {
+        Ok(reader) => {
+            let mut reader = reader;
+            read_start(alloc, &mut reader, limit)
         }
         Err(_) => Err(DeskFault::Failed),
     }
 }
 
-/// Makes a file of these bytes; false where it cannot be made or written.
-fn write_file<R: Files>(rt: &R, name: &str, bytes: &[u8]) -> bool {
-    match fs::create(rt, name) {
-        Ok(file) => {
-            let mut file = file;
-            write_whole(&mut file, bytes)
+/// Writes all the bytes to what was made; false where it could not be made, or a write of bytes that
+/// are left fails or takes nothing.
+fn write_made<W: Write + Drop>(made: io::Result<W>, bytes: &[u8]) -> bool
+    ensures { OnErr made (result ≡ false) }
+{
+    match made {
+        Ok(writer) => {
+            let mut writer = writer;
+            write_whole(&mut writer, bytes)
         }
         Err(_) => false,
     }
@@ -117,7 +122,7 @@ impl<'a, R: Files> Desk for DiskDesk<'a, R> {
 
     fn fetch(&mut self, alloc: Global, name: &Word, limit: usize) -> Result<Vec<u8>, DeskFault> {
         let failed = name.copy(self.alloc)?;
-        match read_file(self.rt, alloc, name.as_str(), limit) {
+        match read_opened(alloc, fs::open(self.rt, name.as_str()), limit) {
             Err(DeskFault::Failed) => {
                 self.read_faults = self.read_faults.saturating_add(1);
                 self.read_failed = Some(failed);
@@ -129,7 +134,7 @@ impl<'a, R: Files> Desk for DiskDesk<'a, R> {
 
     fn put(&mut self, name: &Word, bytes: &[u8]) -> Result<(), DeskFault> {
         let failed = name.copy(self.alloc)?;
-        if write_file(self.rt, name.as_str(), bytes) {
+        if write_made(fs::create(self.rt, name.as_str()), bytes) {
             return Ok(());
         }
         self.write_faults = self.write_faults.saturating_add(1);
@@ -141,8 +146,38 @@ impl<'a, R: Files> Desk for DiskDesk<'a, R> {
 #[cfg(test)]
 mod tests {
     use super::*;
+    use crate::pipe::Pipe;
+    use std::alloc::AllocError;
     use std::process;
     use std::test::Fail;
+
+    /// How many numbers make a text that is longer than a block, and one of some megabytes.
+    const LONGER_THAN_A_BLOCK: u32 = 2_000;
+
+    const MEGABYTES: u32 = 500_000;
+
+    /// The numbers below `count`, a line each.
+    fn numbers(alloc: Global, count: u32) -> Result<String, AllocError> {
+        let mut text = String::new(alloc);
+        for number in 0..count {
+            writeln!(text, "{number}")?;
+        }
+        Ok(text)
+    }
+
+    /// Whether a file that is put holds these bytes and no others, and a fetch of fewer gives the first.
+    fn holds<D: Desk>(
+        alloc: Global,
+        desk: &mut D,
+        name: &Word,
+        bytes: &[u8],
+    ) -> Result<bool, DeskFault> {
+        desk.put(name, bytes)?;
+        let whole = desk.fetch(alloc, name, usize::MAX)?;
+        let front = bytes.len() / 2;
+        let start = desk.fetch(alloc, name, front)?;
+        Ok(whole.as_slice() == bytes && start.as_slice() == &bytes[..front])
+    }
 
     #[test]
     fn puts_and_fetches_a_file(rt: HostRuntime) -> Result<(), Fail> {
@@ -151,19 +186,46 @@ mod tests {
         let mut desk = DiskDesk::new(&rt, rt.alloc());
         assert!(rt; matches!(desk.fetch(rt.alloc(), &name, 9), Err(DeskFault::Failed)));
         assert_eq!(rt; desk.read_faults, 1);
-        desk.put(&name, b"longer than that")?;
-        desk.put(&name, b"the tour")?;
-        assert_eq!(rt;
-            desk.fetch(rt.alloc(), &name, 99)?.as_slice(),
-            b"the tour".as_slice()
-        );
-        assert_eq!(rt;
-            desk.fetch(rt.alloc(), &name, 3)?.as_slice(),
-            b"the".as_slice()
-        );
+        for count in [MEGABYTES, LONGER_THAN_A_BLOCK, 3, 0] {
+            let text = numbers(rt.alloc(), count)?;
+            assert!(rt;
+                holds(rt.alloc(), &mut desk, &name, text.as_bytes())?,
+                "of {count} numbers"
+            );
+        }
         fs::remove_file(&rt, name.as_str())?;
         assert_eq!(rt; desk.read_faults, 1);
         assert_eq!(rt; desk.write_faults, 0);
+        Ok(())
+    }
+
+    #[test]
+    fn fails_at_what_is_no_file(rt: HostRuntime) -> Result<(), Fail> {
+        let alloc = rt.alloc();
+        let text = numbers(alloc, LONGER_THAN_A_BLOCK)?;
+        let mut desk = DiskDesk::new(&rt, alloc);
+        for name in ["no-folder/tour.json", "."] {
+            let fetched = desk.fetch(alloc, &Word::new(alloc, name)?, 9);
+            assert!(rt; matches!(fetched, Err(DeskFault::Failed)), "fetched {name}");
+        }
+        for name in ["no-folder/plan.cert", ".", "/dev/full"] {
+            let put = desk.put(&Word::new(alloc, name)?, text.as_bytes());
+            assert!(rt; matches!(put, Err(DeskFault::Failed)), "put {name}");
+        }
+        assert_eq!(rt; desk.read_faults, 2);
+        assert_eq!(rt; desk.write_faults, 3);
+        Ok(())
+    }
+
+    #[test]
+    fn writes_all_or_tells_that_it_did_not(rt: HostRuntime) -> Result<(), Fail> {
+        let bytes = [b'x'; 10_000];
+        for (room, is_whole, left) in [(10_001, true, 1), (9_999, false, 0), (5_000, false, 0)] {
+            let pipe = Pipe::new(room);
+            let written = write_made(Ok(io::writer(&pipe)), &bytes);
+            assert_eq!(rt; written, is_whole, "with room for {room}");
+            assert_eq!(rt; pipe.room(), left, "with room for {room}");
+        }
         Ok(())
     }
 }

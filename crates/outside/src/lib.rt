@@ -4,6 +4,8 @@
 mod desk;
 mod disk;
 mod memory;
+#[cfg(test)]
+mod pipe;
 mod sink;
 mod stdout;
 mod word;

@@ -2,7 +2,7 @@
 ghost use Rattle.std.specs.Prelude.{◌≡◌, ◌≤◌, ◌++◌, ◌∷◌, [], length, OnOk, OnErr, IfOk, MatchOption, true, false, Some};
 ghost use Rattle.std.specs.Option.{option_copied};
 ghost use Rattle.std.specs.FinMap.{get, insert};
-ghost use Rattle.outside.specs.Outside.{start_of, Tells, Puts, Sends, Counts};
+ghost use Rattle.outside.specs.Outside.{start_of, Tells, Puts, Sends, Counts, CountsSend};
 ghost use Rattle.outside.specs.Memory.{new_desk, fetch_fails, put_fails, FailsWhere, Fetches, PutsFile, new_sink, failing_prefix, SendsPiece};
 
 use crate::desk::{Desk, DeskFault};
@@ -296,10 +296,13 @@ impl MemorySink {
 impl Sink for MemorySink {
     ghost written = { λ s. Some s.written };
 
+    ghost sends = { λ s. s.sends };
+
     ghost faults = { λ s. s.faults };
 
     fn send(&mut self, bytes: &[u8]) -> Result<(), SinkFault>
         ensures sent { Sends result (Some self.old.written) (Some self.new.written) bytes.now }
+        ensures counted { CountsSend result self.old.sends self.new.sends }
         ensures told { Counts result self.old.faults self.new.faults }
         ensures state { SendsPiece result self.old self.new bytes.now }
     {

@@ -1,7 +1,7 @@
 //! A sink, to which bytes are sent.
 ghost use Rattle.std.specs.Prelude.{◌≡◌, ℕ, List, Option};
 ghost use Rattle.outside.specs.declared.sink.SinkFault.TheVariants.{Memory};
-ghost use Rattle.outside.specs.Outside.{Sends, Counts};
+ghost use Rattle.outside.specs.Outside.{Sends, Counts, CountsSend};
 
 use duty_core::NoMemory;
 use std::alloc::{AllocError, AllocFailed};
@@ -39,20 +39,25 @@ impl<T: Drop> From<AllocFailed<T>> for SinkFault {
     }
 }
 
-/// What takes bytes one piece after another, with a count of the sends that failed. The count
-/// stops at the greatest `u64`.
+/// What takes bytes one piece after another, with a count of the sends and one of those that
+/// failed. A count stops at the greatest `u64`.
 pub trait Sink {
     /// The bytes so far. None where the sink tells nothing of content.
     ghost written: { Self → Option (List ℕ) };
 
+    /// How many sends were answered `Ok` or `Failed`.
+    ghost sends: { Self → ℕ };
+
     /// How many sends failed.
     ghost faults: { Self → ℕ };
 
-    /// Appends these bytes.
+    /// Appends these bytes, and counts the send.
     ///
     /// `Failed` where not all of them could be written: some first part of them was appended, and
-    /// the fault is counted. `Memory` where there is no memory: nothing was appended.
+    /// the fault is counted too. `Memory` where there is no memory: nothing was appended, and
+    /// nothing is counted.
     fn send(&mut self, bytes: &[u8]) -> Result<(), SinkFault>
         ensures sent { Sends result (written self.old) (written self.new) bytes.now }
+        ensures counted { CountsSend result (sends self.old) (sends self.new) }
         ensures told { Counts result (faults self.old) (faults self.new) };
 }
