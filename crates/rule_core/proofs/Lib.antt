@@ -1,1 +1,2 @@
+pub mod PrunedLaws
 pub mod ReplayLaws

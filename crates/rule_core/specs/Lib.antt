@@ -1,11 +1,8 @@
 pub mod Reach
-pub mod ReachLaws
-pub mod OneOf
 pub mod Machine
 pub mod Replay
-pub mod Guard
+pub mod Pruned
 pub mod Refusal
-pub mod RefusalLaws
 pub mod TourRest
-pub mod StateText
-pub mod RestLaws
+pub mod Book
+pub mod Laws

@@ -1,33 +1,35 @@
--- The laws of one book at one start, over steps of so many units: what generic lemmas take.
-use Rattle.std.specs.Prelude.{◌≡◌, ◌↔◌, ℕ, ◌+◌, ◌*◌, ◌≤◌, Bool, true, List, replicate}
-use Rattle.std.specs.Option.{option_to_list}
+-- A rule book as one value: a machine over states of histories.
+use Rattle.std.specs.Prelude.{ℕ, Bool, List, Option}
 use Rattle.duty_core.specs.declared.activity.Activity.{Activity}
 use Rattle.duty_core.specs.declared.mark.Mark.{Mark}
 use Rattle.duty_core.specs.declared.params.Params.{Params}
-use Rattle.duty_core.specs.Activity.{idles}
-use Rattle.duty_core.specs.Params.{unit_minutes, allows}
-use Rattle.duty_core.specs.declared.limits.TheConstants.{LONGEST_HISTORY}
-use Rattle.duty_core.specs.History.{IsTimed}
-use Rattle.duty_core.specs.Lawful.{IsLawfulWith}
 use Rattle.rule_core.specs.declared.nexts.Next.{Next}
 use Rattle.rule_core.specs.declared.nexts.Idles.{Idles}
-use Rattle.rule_core.specs.Reach.{idle_list, IsOneOf, Reaches, IsAnswered}
+use Rattle.rule_core.specs.Reach.{Reaches}
 
--- What a book's laws say, at one book and one first minute.
-pub record IsMachine {S : Type 0} (params : Params) (first : ℕ) (is_state : S → ℕ → Type 0) (root : S)
-    (nexts : S → ℕ → Activity → List (Next S)) (advances : S → ℕ → Activity → ℕ → List (Next S)) (covers : S → S → ℕ → Bool) (tries : S → Idles) : Type 0 where
-  pub root_is : is_state root first
-  pub next_is : (s : S) (at : ℕ) (x : Activity) (n : Next S) → is_state s at → IsOneOf (nexts s at x) n → is_state n.state (at + unit_minutes params)
-  pub exact : (h : List Activity) (marks : List Mark) → IsTimed params first h →
-      ((s : S) × Reaches (unit_minutes params) nexts root first h marks s) ↔ IsLawfulWith params first h marks
-  pub advances_reach : (s : S) (at : ℕ) (x : Activity) (n : ℕ) (t : Next S) → is_state s at → IsOneOf (advances s at x n) t →
-      Reaches (unit_minutes params) nexts s at (replicate n x) (option_to_list t.mark) t.state
-  pub advances_all : (s : S) (at : ℕ) (x : Activity) (n : ℕ) (marks : List Mark) (u : S) → is_state s at → Reaches (unit_minutes params) nexts s at (replicate n x) marks u →
-      (t : Next S) × IsOneOf (advances s at x n) t × (t.state ≡ u) × (marks ≡ option_to_list t.mark)
-  pub itself : (s : S) (at : ℕ) → is_state s at → covers s s at ≡ true
-  pub on : (a b c : S) (at : ℕ) → is_state a at → is_state b at → is_state c at → covers a b at ≡ true → covers b c at ≡ true → covers a c at ≡ true
-  pub simulates : (a b : S) (at : ℕ) (x : Activity) (n : Next S) → is_state a at → is_state b at → covers a b at ≡ true → allows params x ≡ true →
-      IsOneOf (nexts b at x) n → IsAnswered (nexts a at x) (λ t. covers t n.state (at + unit_minutes params))
-  pub tries_allowed : (s : S) (at : ℕ) (y : Activity) → is_state s at → IsOneOf (idle_list (tries s)) y → (idles y ≡ true) × (allows params y ≡ true)
-  pub tries_cover : (s : S) (at : ℕ) (x : Activity) (n : ℕ) (t : Next S) → is_state s at → 1 ≤ n → n ≤ LONGEST_HISTORY → idles x ≡ true → allows params x ≡ true → IsOneOf (advances s at x n) t →
-      (y : Activity) × IsOneOf (idle_list (tries s)) y × IsAnswered (advances s at y n) (λ u. covers u t.state (at + unit_minutes params * n))
+-- What a book with these parameters does, S being what it remembers of a history.
+pub record Machine (S : Type 0) : Type 1 where
+  -- the book's parameters
+  pub params : Params
+  -- The state is one of a history that ends at this minute.
+  pub is_state : S → ℕ → Type 0
+  -- the state of the empty history that begins at this minute
+  pub root : ℕ → S
+  -- the states after one unit that begins at this minute
+  pub nexts : S → ℕ → Activity → List (Next S)
+  -- the states after so many equal units, the first of which begins at this minute
+  pub advances : S → ℕ → Activity → ℕ → List (Next S)
+  -- whether the first state may stand for the second at this minute
+  pub covers : S → S → ℕ → Bool
+  -- the idle activities that a search needs to try
+  pub idles : S → Idles
+  -- whether resting in place of anything else is always safe
+  pub ahead : S → Bool
+  -- the numbers of a state at this minute
+  pub numbers : S → ℕ → List ℕ
+  -- the state that has these numbers at this minute, where there is one
+  pub state_of : List ℕ → ℕ → Option S
+
+-- The history h that begins at the minute `first` leads with these marks to the state s, by units of so many minutes.
+abbrev pub LeadsTo : {S : Type 0} → ℕ → Machine S → ℕ → List Activity → List Mark → S → Type 0
+LeadsTo unit m first h marks s = Reaches unit m.nexts (m.root first) first h marks s

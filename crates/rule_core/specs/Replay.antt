@@ -9,7 +9,8 @@ use Rattle.rule_core.specs.declared.nexts.Next.{Next}
 use Rattle.rule_core.specs.declared.roots.Root.{Root}
 use Rattle.rule_core.specs.declared.over_log.Replayed.{Replayed}
 use Rattle.rule_core.specs.declared.over_log.Replayed.TheVariants.{Lawful, Unlawful}
-use Rattle.rule_core.specs.Reach.{IsOneOf, Reaches}
+use Rattle.rule_core.specs.Reach.{IsOneOf}
+use Rattle.rule_core.specs.Machine.{Machine, LeadsTo}
 
 -- a successor as a root: the marks so far, and the one chosen on the way to it
 abbrev pub root_by : {S : Type 0} → List Mark → Next S → Root S
@@ -20,17 +21,17 @@ abbrev pub roots_by : {S : Type 0} → (S → ℕ → Activity → List (Next S)
 roots_by nexts at act roots = flat_map (λ root. map (root_by root.marks) (nexts root.state at act)) roots
 
 -- Each root has a state of this minute.
-abbrev pub AreRootStates : {S : Type 0} → (S → ℕ → Type 0) → ℕ → List (Root S) → Type 0
-AreRootStates {S} is_state at roots = (root : Root S) → IsOneOf roots root → is_state root.state at
+abbrev pub AreRootStates : {S : Type 0} → Machine S → ℕ → List (Root S) → Type 0
+AreRootStates {S} m at roots = (root : Root S) → IsOneOf roots root → m.is_state root.state at
 
 -- Some root has a state that may stand for this one.
 abbrev pub IsCoveredByRoot : {S : Type 0} → (S → S → Bool) → List (Root S) → S → Type 0
 IsCoveredByRoot {S} covers roots s = (root : Root S) × IsOneOf roots root × (covers root.state s ≡ true)
 
 -- The log reaches each root with its marks, and a root covers each state that the log reaches with any marks.
-pub record AreRootsOf {S : Type 0} (unit : ℕ) (nexts : S → ℕ → Activity → List (Next S)) (covers : S → S → ℕ → Bool) (start : S) (first : ℕ) (log : List Activity) (roots : List (Root S)) : Type 0 where
-  pub reached : (root : Root S) → IsOneOf roots root → Reaches unit nexts start first log root.marks root.state
-  pub all : (s : S) (marks : List Mark) → Reaches unit nexts start first log marks s → IsCoveredByRoot (λ a b. covers a b (first + unit * length log)) roots s
+pub record AreRootsOf {S : Type 0} (unit : ℕ) (m : Machine S) (first : ℕ) (log : List Activity) (roots : List (Root S)) : Type 0 where
+  pub reached : (root : Root S) → IsOneOf roots root → LeadsTo unit m first log root.marks root.state
+  pub all : (s : S) (marks : List Mark) → LeadsTo unit m first log marks s → IsCoveredByRoot (λ a b. m.covers a b (first + unit * length log)) roots s
   pub some : 0 < length roots
   pub few : length roots < 2 ^ 32
 

@@ -6,6 +6,7 @@ mod book;
 mod nexts;
 mod numbers;
 mod over_log;
+mod pruned;
 mod roots;
 
 pub use book::RuleBook;

@@ -44,7 +44,7 @@ impl Numbers {
         Ok(())
     }
 
-    /// These numbers behind the others. Where there is no memory for them, the others stay as they
+    /// These numbers after the others. Where there is no memory for them, the others stay as they
     /// were.
     pub fn extend(&mut self, items: &[u32]) -> Result<(), NoMemory>
         ensures ok { OnOk result (self.new ≡ self.old ++ items.now) }

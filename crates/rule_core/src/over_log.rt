@@ -7,9 +7,11 @@ ghost use Rattle.duty_core.specs.History.{IsTimed};
 ghost use Rattle.duty_core.specs.Lawful.{IsLawful};
 ghost use Rattle.rule_core.specs.Reach.{listed};
 ghost use Rattle.rule_core.specs.Replay.{root_by, roots_by, AreRootStates, AreRootsOf, IsFirstUnlawful, IfLawful, IfUnlawful};
+ghost use Rattle.rule_core.specs.Pruned.{ArePruned};
 
 use crate::book::RuleBook;
 use crate::nexts::{Next, Nexts};
+use crate::pruned::{distinct, uncovered};
 use crate::roots::{Root, Roots};
 use duty_core::{Activity, Marks, Minute, NoMemory, unit_of};
 use std::alloc::Global;
@@ -18,7 +20,8 @@ use timeline::Timeline;
 /// What going over a log shows.
 #[derive(Drop)]
 pub enum Replayed<S> {
-    /// The log breaks no rule with some marks. These are the states that it leads to, at least one.
+    /// The log breaks no rule with some marks. These are states that it leads to, at least one, and
+    /// they cover all that it leads to.
     Lawful(Roots<S>),
     /// With any marks the log breaks a rule up to this unit, counted from 0, and before it none.
     Unlawful { unit: u32 },
@@ -66,9 +69,9 @@ fn roots_after<B: RuleBook>(
     at: Minute,
     act: Activity,
 ) -> Result<Roots<B::State>, NoMemory>
-    requires states { AreRootStates (B.is_state_at book.now) at roots }
-    requires range { at + unit_minutes (B.params_of book.now) < MINUTE_LIMIT }
-    ensures { IfOk result (λ after. after ≡ roots_by (B.nexts_of book.now) at act roots) }
+    requires states { AreRootStates (B.machine book.now) at roots }
+    requires range { at + unit_minutes (B.machine book.now).params < MINUTE_LIMIT }
+    ensures { IfOk result (λ after. after ≡ roots_by (B.machine book.now).nexts at act roots) }
 {
     let Roots { roots } = roots;
     let mut after = Roots::new(alloc);
@@ -80,14 +83,35 @@ fn roots_after<B: RuleBook>(
     Ok(after)
 }
 
+/// What one more unit, which begins at `at`, makes of the roots; of equal states one, where it makes
+/// more roots than there were.
+fn roots_on<B: RuleBook>(
+    alloc: Global,
+    book: &B,
+    roots: Roots<B::State>,
+    at: Minute,
+    act: Activity,
+) -> Result<Roots<B::State>, NoMemory>
+    requires states { AreRootStates (B.machine book.now) at roots }
+    requires range { at + unit_minutes (B.machine book.now).params < MINUTE_LIMIT }
+    ensures { IfOk result (λ kept. ArePruned (λ a b. a ≡ b) (roots_by (B.machine book.now).nexts at act roots) kept) }
+{
+    let before = roots.len();
+    let after = roots_after(alloc, book, roots, at, act)?;
+    if after.len() <= before {
+        return Ok(after);
+    }
+    distinct(alloc, book, after, at + unit_of(book.params()))
+}
+
 /// The root of the empty log that begins at `first`.
 fn first_roots<B: RuleBook>(
     alloc: Global,
     book: &B,
     first: Minute,
 ) -> Result<Roots<B::State>, NoMemory>
-    requires { IsTimed (B.params_of book.now) first [] }
-    ensures { IfOk result (λ roots. roots ≡ record { state = B.root_of book.now first; marks = [] } ∷ []) }
+    requires { IsTimed (B.machine book.now).params first [] }
+    ensures { IfOk result (λ roots. roots ≡ record { state = (B.machine book.now).root first; marks = [] } ∷ []) }
 {
     let mut roots = Roots::new(alloc);
     let state = book.root(first)?;
@@ -98,28 +122,28 @@ fn first_roots<B: RuleBook>(
     Ok(roots)
 }
 
-/// Goes over a log whose first unit begins at `first`: the states that it leads to, or the first
-/// unit up to which it breaks a rule with any marks.
+/// Goes over a log whose first unit begins at `first`: states that it leads to, which cover all that
+/// it leads to, or the first unit up to which it breaks a rule with any marks.
 ///
-/// `NoMemory` where there is none for the roots, and where a beginning of the log leads to
-/// 4,294,967,295 of them or more.
+/// `NoMemory` where there is none for the roots, and where 4,294,967,295 of them or more are kept for
+/// a beginning of the log.
 pub fn replay<B: RuleBook>(
     alloc: Global,
     book: &B,
     log: &Timeline,
     first: Minute,
 ) -> Result<Replayed<B::State>, NoMemory>
-    requires timed { IsTimed (B.params_of book.now) first log.now }
-    ensures lawful { IfOk result (λ answer. IfLawful answer (λ _. IsLawful (B.params_of book.now) first log.now)) }
-    ensures roots { IfOk result (λ answer. IfLawful answer (AreRootsOf (unit_minutes (B.params_of book.now)) (B.nexts_of book.now)
-        (B.covering book.now) (B.root_of book.now first) first log.now)) }
-    ensures unlawful { IfOk result (λ answer. IfUnlawful answer (IsFirstUnlawful (B.params_of book.now) first log.now)) }
+    requires timed { IsTimed (B.machine book.now).params first log.now }
+    ensures lawful { IfOk result (λ answer. IfLawful answer (λ _. IsLawful (B.machine book.now).params first log.now)) }
+    ensures roots { IfOk result (λ answer. IfLawful answer (AreRootsOf (unit_minutes (B.machine book.now).params) (B.machine book.now) first log.now)) }
+    ensures unlawful { IfOk result (λ answer. IfUnlawful answer (IsFirstUnlawful (B.machine book.now).params first log.now)) }
 {
     let minutes = unit_of(book.params());
-    // No root is left out for one that covers it: that one answers for what a schedule may hold only.
+    // Before the log's end no root is left out for one that covers it: that one answers only for what
+    // a schedule may hold, and a log may hold more.
     let mut roots = first_roots(alloc, book, first)?;
     for unit in 0..log.len() {
-        roots = roots_after(alloc, book, roots, first + minutes * unit, log.at(unit))?;
+        roots = roots_on(alloc, book, roots, first + minutes * unit, log.at(unit))?;
         if roots.is_empty() {
             return Ok(Replayed::Unlawful { unit });
         }
@@ -127,5 +151,6 @@ pub fn replay<B: RuleBook>(
             return Err(NoMemory);
         }
     }
-    Ok(Replayed::Lawful(roots))
+    let end = first + minutes * log.len();
+    Ok(Replayed::Lawful(uncovered(alloc, book, roots, end)?))
 }

@@ -2,7 +2,7 @@ use Rattle.std.proofs.Common.{◌≡◌, length, sym, subst, ◌∙◌, arith}
 use Rattle.std.proofs.lemmas.List.{map-id}
 use Rattle.std.proofs.lemmas.Iterator.Adapters.{YieldsList-from_vec}
 use Rattle.std.proofs.lemmas.Iterator.Consumers.{YieldsList-turn, YieldsList-end}
-use Rattle.rule_core.specs.OneOf.{one_of_item}
+use Rattle.rule_core.specs.Laws.OneOf.{one_of_item}
 use Rattle.rule_core.specs.Reach.{IsOneOf}
 use Rattle.rule_core.specs.Replay.{roots_by}
 use Rattle.rule_core.proofs.ReplayLaws.{roots_more}
@@ -20,7 +20,7 @@ pub loop-root-preserved : goal.loop-root-preserved
 loop-root-preserved g c = record {
   can = tt;
   finite = tt;
-  grown = roots_more (g.B.RuleBook.nexts_of c.args.book.now) c.args.at c.args.act c.loop-root.yielded c.loop-root.after c.push_nexts.new.roots c.in-Some.root _
+  grown = roots_more (g.B.RuleBook.machine c.args.book.now).nexts c.args.at c.args.act c.loop-root.yielded c.loop-root.after c.push_nexts.new.roots c.in-Some.root _
       c.loop-root.invariant.grown c.in_ok-nexts.ensures.nexts c.in_ok-push_nexts.ensures.ok;
 }
 
@@ -30,5 +30,5 @@ returns g c =
     let i = c.into_iter-root-iterator.ensures.into_iter_gives in
     let t = YieldsList-end (YieldsList-from_vec {s = c.into_iter-root-iterator.result} xs i.0 (omega arith)) c.loop-root.yielded c.loop-root.root-iterator c.loop-root.yielded_by c.next.result c.next.new.self c.in-None.is c.next.ensures.steps in
     let whole : c.loop-root.yielded ≡ xs = sym (map-id c.loop-root.yielded) ∙ t.0 in
-    subst (λ ys. c.loop-root.after ≡ roots_by (g.B.RuleBook.nexts_of c.args.book.now) c.args.at c.args.act ys) c.roots.view_is
-    (subst (λ ys. c.loop-root.after ≡ roots_by (g.B.RuleBook.nexts_of c.args.book.now) c.args.at c.args.act ys) whole c.loop-root.invariant.grown)
+    subst (λ ys. c.loop-root.after ≡ roots_by (g.B.RuleBook.machine c.args.book.now).nexts c.args.at c.args.act ys) c.roots.view_is
+    (subst (λ ys. c.loop-root.after ≡ roots_by (g.B.RuleBook.machine c.args.book.now).nexts c.args.at c.args.act ys) whole c.loop-root.invariant.grown)

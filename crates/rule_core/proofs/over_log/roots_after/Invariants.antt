@@ -6,5 +6,5 @@ abbrev pub invariant-loop-root : goal.invariant-loop-root
 invariant-loop-root g l = record {
   can : (goal.iterator-loop-root g).can_next l.root-iterator;
   finite : (goal.iterator-loop-root g).is_finite l.root-iterator;
-  grown : l.after ≡ roots_by (g.B.RuleBook.nexts_of l.book) l.at l.act l.yielded;
+  grown : l.after ≡ roots_by (g.B.RuleBook.machine l.book).nexts l.at l.act l.yielded;
 }

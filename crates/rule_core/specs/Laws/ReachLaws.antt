@@ -6,7 +6,7 @@ use Rattle.duty_core.specs.declared.mark.Mark.{Mark}
 use Rattle.rule_core.specs.declared.nexts.Next.{Next}
 use Rattle.rule_core.specs.Reach.{IsOneOf, Reaches}
 
--- one path behind another
+-- one path after another
 pub reaches-append : {S : Type 0} (unit : ℕ) (nexts : S → ℕ → Activity → List (Next S)) (xs ys : List Activity) (s : S) (at : ℕ) (marks : List Mark) (t : S) (later : List Mark) (u : S) →
     Reaches unit nexts s at xs marks t → Reaches unit nexts t (at + unit * length xs) ys later u → Reaches unit nexts s at (xs ++ ys) (marks ++ later) u
 reaches-append unit nexts [] ys s at marks t later u r q =

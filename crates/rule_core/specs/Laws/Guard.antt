@@ -10,17 +10,17 @@ use Rattle.duty_core.specs.declared.mark.Mark.{Mark}
 use Rattle.duty_core.specs.declared.params.Params.{Params}
 use Rattle.duty_core.specs.Params.{unit_minutes}
 use Rattle.duty_core.specs.History.{pad_units, padding, padded}
-use Rattle.duty_core.specs.HistoryLaws.{length-one_more, IsRule, holds_more, holds_before, holds_behind, holds_padding}
+use Rattle.duty_core.specs.Laws.HistoryLaws.{length-one_more, IsRule, holds_more, holds_before, holds_after, holds_padding}
 use Rattle.rule_core.specs.declared.nexts.Next.{Next}
 use Rattle.rule_core.specs.Reach.{IsOneOf, Reaches}
-use Rattle.rule_core.specs.OneOf.{one_of-map, one_of_map}
+use Rattle.rule_core.specs.Laws.OneOf.{one_of-map, one_of_map}
 
 -- The guard lets these units pass, the first of which begins at this minute.
 abbrev pub Passes : {C : Type 0} → ℕ → (C → ℕ → Activity → Bool) → (C → ℕ → Activity → C) → C → ℕ → List Activity → Type 0
 Passes unit ok go c at [] = Unit {0}
 Passes unit ok go c at (x ∷ xs) = (ok c at x ≡ true) × Passes unit ok go (go c at x) (at + unit) xs
 
--- # A machine behind a guard
+-- # A machine after a guard
 
 -- a state, and that of the guard beside it
 pub record Both (S C : Type 0) : Type 0 where
@@ -30,7 +30,7 @@ pub record Both (S C : Type 0) : Type 0 where
 abbrev pub with_guard : {S C : Type 0} → C → Next S → Next (Both S C)
 with_guard c n = record { state = record { state = n.state; guard = c }; mark = n.mark }
 
--- the successors of a machine behind a guard
+-- the successors of a machine after a guard
 abbrev pub guarded : {S C : Type 0} → (S → ℕ → Activity → List (Next S)) → (C → ℕ → Activity → Bool) → (C → ℕ → Activity → C) → Both S C → ℕ → Activity → List (Next (Both S C))
 guarded nexts ok go s at x = if ok s.guard at x then map (with_guard (go s.guard at x)) (nexts s.state at x) else []
 
@@ -42,7 +42,7 @@ pub true_when : {X : Type 0} (b : Bool) (xs : List X) (x : X) → b ≡ true →
 true_when true xs x e h = h
 true_when false xs x e h = absurd (let z : false ≡ true = e in cc)
 
--- A path behind a guard is a path that the guard lets pass.
+-- A path after a guard is a path that the guard lets pass.
 pub guarded_path : {S C : Type 0} (unit : ℕ) (nexts : S → ℕ → Activity → List (Next S)) (ok : C → ℕ → Activity → Bool) (go : C → ℕ → Activity → C) (s : Both S C) (at : ℕ) (xs : List Activity) (marks : List Mark) (u : Both S C) →
     Reaches unit (guarded nexts ok go) s at xs marks u → Reaches unit nexts s.state at xs marks u.state × Passes unit ok go s.guard at xs
 guarded_path unit nexts ok go s at [] marks u r = ((ap (λ v. v.state) r.0, r.1), tt)
@@ -75,7 +75,7 @@ path_guarded unit nexts ok go s c at (x ∷ xs) marks t r p =
 
 -- # What a guard means
 
--- The minute `at` is that of the place behind the units p of a padded history, whose history begins at the minute `first`.
+-- The minute `at` is that of the place after the units p of a padded history, whose history begins at the minute `first`.
 abbrev pub IsBehind : Params → ℕ → List Activity → ℕ → Type 0
 IsBehind params first p at = at + unit_minutes params * pad_units params ≡ first + unit_minutes params * length p
 
@@ -86,8 +86,8 @@ pub record IsGuard {C : Type 0} (params : Params) (first : ℕ) (G : List Activi
   pub sound : (p : List Activity) (c : C) (at : ℕ) (x : Activity) → IsBehind params first p at → T p c → ok c at x ≡ true → G (p ++ x ∷ []) (length p)
   pub complete : (p : List Activity) (c : C) (at : ℕ) (x : Activity) → IsBehind params first p at → T p c → G (p ++ x ∷ []) (length p) → ok c at x ≡ true
 
-behind_on : (params : Params) (first : ℕ) (p : List Activity) (at : ℕ) (x : Activity) → IsBehind params first p at → IsBehind params first (p ++ x ∷ []) (at + unit_minutes params)
-behind_on params first p at x e =
+after_on : (params : Params) (first : ℕ) (p : List Activity) (at : ℕ) (x : Activity) → IsBehind params first p at → IsBehind params first (p ++ x ∷ []) (at + unit_minutes params)
+after_on params first p at x e =
     let l : unit_minutes params * length (p ++ x ∷ []) ≡ unit_minutes params * (length p + 1) = ap (λ n. unit_minutes params * n) (length-one_more p x) in omega arith
 
 passes_sound : {C : Type 0} (params : Params) (first : ℕ) (G : List Activity → ℕ → Type 0) (T : List Activity → C → Type 0) (ok : C → ℕ → Activity → Bool) (go : C → ℕ → Activity → C) (d : IsGuard params first G T ok go)
@@ -95,7 +95,7 @@ passes_sound : {C : Type 0} (params : Params) (first : ℕ) (G : List Activity �
 passes_sound params first G T ok go d [] p c at e t h w i = subst (λ q. G q i) (sym (append-nil p)) (h i)
 passes_sound params first G T ok go d (x ∷ xs) p c at e t h w i =
     subst (λ q. G q i) (append_assoc p (x ∷ []) xs)
-    (passes_sound params first G T ok go d xs (p ++ x ∷ []) (go c at x) (at + unit_minutes params) (behind_on params first p at x e) (d.on p c at x e t)
+    (passes_sound params first G T ok go d xs (p ++ x ∷ []) (go c at x) (at + unit_minutes params) (after_on params first p at x e) (d.on p c at x e t)
     (holds_more G p x d.rule h (d.sound p c at x e t w.0)) w.1 i)
 
 passes_complete : {C : Type 0} (params : Params) (first : ℕ) (G : List Activity → ℕ → Type 0) (T : List Activity → C → Type 0) (ok : C → ℕ → Activity → Bool) (go : C → ℕ → Activity → C) (d : IsGuard params first G T ok go)
@@ -104,7 +104,7 @@ passes_complete params first G T ok go d [] p c at e t h = tt
 passes_complete params first G T ok go d (x ∷ xs) p c at e t h =
     let w : (i : ℕ) → G ((p ++ x ∷ []) ++ xs) i = λ i. subst (λ q. G q i) (sym (append_assoc p (x ∷ []) xs)) (h i) in (
       d.complete p c at x e t (holds_before G (p ++ x ∷ []) xs d.rule w (length p)),
-      passes_complete params first G T ok go d xs (p ++ x ∷ []) (go c at x) (at + unit_minutes params) (behind_on params first p at x e) (d.on p c at x e t) w,
+      passes_complete params first G T ok go d xs (p ++ x ∷ []) (go c at x) (at + unit_minutes params) (after_on params first p at x e) (d.on p c at x e t) w,
     )
 
 -- A history passes exactly where its padded history keeps the rule everywhere.
@@ -112,7 +112,7 @@ pub guard_exact : {C : Type 0} (params : Params) (first : ℕ) (G : List Activit
     (c : C) (h : List Activity) → T (padding params) c → Passes (unit_minutes params) ok go c first h ↔ ((i : ℕ) → G (padded params h) i)
 guard_exact params first G T ok go d c h t =
     let e : IsBehind params first (padding params) first = ap (λ n. first + unit_minutes params * n) (sym (length-replicate (pad_units params) Off)) in (
-      (λ w. holds_behind G (padding params ++ h) (pad_units params) d.rule
+      (λ w. holds_after G (padding params ++ h) (pad_units params) d.rule
           (passes_sound params first G T ok go d h (padding params) c first e t (holds_padding G (pad_units params) d.rule) w)),
       (λ w. passes_complete params first G T ok go d h (padding params) c first e t (holds_before G (padding params ++ h) (padding params) d.rule w)),
     )

@@ -1,0 +1,6 @@
+-- What follows from the definitions, for the contracts and proofs of this crate and of those above it.
+pub mod ReachLaws
+pub mod OneOf
+pub mod Guard
+pub mod RefusalLaws
+pub mod RestLaws
