@@ -14,7 +14,7 @@ use Rattle.sleeper_split.specs.declared.count.SplitCount.{SplitCount}
 use Rattle.sleeper_split.specs.declared.count.Since.TheVariants.{Driving, Duty, Elapsed}
 use Rattle.sleeper_split.specs.Machine.{fresh_count, used_of, run_of}
 use Rattle.sleeper_split.specs.Covers.{IsCountOf}
-use Rattle.sleeper_split.specs.CountryLaws.{is_split_way}
+use Rattle.sleeper_split.specs.Ways.{is_split_way}
 use Rattle.sleeper_split.specs.Choices.{Choice, choices}
 use Rattle.cycles_deferral.specs.declared.days.CanadaDays.{CanadaDays}
 use Rattle.cycles_deferral.specs.declared.cycle.CycleCount.{CycleCount}
@@ -89,7 +89,7 @@ calendar_after start c at x =
 abbrev pub ca_made : SplitCount → Calendar → CanadaState
 ca_made split calendar = record { split = split; calendar = calendar }
 
--- behind the rest before a history
+-- after the rest before a history
 abbrev pub root_state : RestWay → ℕ → CanadaState
 root_state way cycle = ca_made fresh_count (calendar_made (day_made 0 0) (fresh_days way) (fresh_cycle cycle))
 

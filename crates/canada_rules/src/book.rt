@@ -3,21 +3,14 @@ ghost use Rattle.std.specs.Prelude.{◌≡◌, ◌⊎◌, ℕ, ◌+◌, ◌-◌,
 ghost use Rattle.duty_core.specs.declared.params.Params.TheVariants.{Canada};
 ghost use Rattle.duty_core.specs.declared.limits.TheConstants.{DAY_MINUTES, MINUTE_LIMIT, CA_CYCLE_1, CA_CYCLE_2};
 ghost use Rattle.rule_core.specs.Reach.{listed};
-ghost use Rattle.canada_rules.specs.Machine.{ca_may, begins_day, ca_date, IsCanadaState, root_state, calendar_after, ca_nexts, ca_advances, goes_on, day_so_far};
+ghost use Rattle.canada_rules.specs.Machine.{ca_may, begins_day, ca_date, IsCanadaState, calendar_after, ca_nexts, goes_on, day_so_far};
 ghost use Rattle.cycles_deferral.specs.DayRuns.{either};
 ghost use Rattle.canada_rules.specs.Ends.{next_with};
 ghost use Rattle.canada_rules.specs.Stretch.{left_of_day, calendar_run, IsGoing};
-ghost use Rattle.canada_rules.specs.Covers.{covers_state, ca_covers_itself, ca_covers_on, ca_simulation};
-ghost use Rattle.canada_rules.specs.BookStates.{IsStateOf, root_is_state_of, next_is_state_of};
-ghost use Rattle.canada_rules.specs.Ahead.{ca_ahead, ca_ahead_stays, ca_ahead_rests};
-ghost use Rattle.canada_rules.specs.Idle.{ca_idles, ca_idles_allowed, ca_idles_cover};
-ghost use Rattle.canada_rules.specs.Better.{ca_better_covers};
-ghost use Rattle.canada_rules.specs.Numbers.{is_seen, fits_day, ca_numbers, ca_state_of};
-ghost use Rattle.canada_rules.specs.NumberLaws.{ca_numbers_read, ca_numbers_told, ca_numbers_few};
+ghost use Rattle.canada_rules.specs.Numbers.{is_seen, fits_day, ca_state_of};
 ghost use Rattle.canada_rules.specs.States.{IsCalendar};
-ghost use Rattle.canada_rules.specs.Advance.{ca_advances_reach, ca_advances_all};
-ghost use Rattle.canada_rules.specs.Exact.{is_may, ca_exact};
-ghost use Rattle.canada_rules.specs.Single.{ca_refuses};
+ghost use Rattle.canada_rules.specs.Book.{ca_book};
+ghost use Rattle.canada_rules.specs.Laws.BookLaws.{ca_laws};
 
 use crate::ends::{Ends, split_run};
 use crate::numbers::{COUNTS, cycle_by, days_by, item, split_by};
@@ -54,7 +47,7 @@ impl CanadaBook {
     pub fn new(berth: bool, way: RestWay, cycle: u8, day_start: u16) -> CanadaBook
         requires cycle { (cycle ≡ CA_CYCLE_1) ⊎ (cycle ≡ CA_CYCLE_2) }
         requires start { day_start < DAY_MINUTES }
-        ensures { ⟦<CanadaBook as RuleBook>⟧.params_of result ≡ Canada berth way cycle day_start }
+        ensures { (⟦<CanadaBook as RuleBook>⟧.machine result).params ≡ Canada berth way cycle day_start }
     {
         CanadaBook {
             berth,
@@ -310,7 +303,7 @@ impl CanadaBook {
 }
 
 /// The minutes of the full rests that have to come before so much more driving and other duty is
-/// done, where so much driving and duty of the shift is behind.
+/// done, where so much driving and duty of the shift is after.
 fn rest_before(driving: u32, other: u32, driven: u32, worked: u32) -> u32 {
     let by_driving = shifts_before(driving, driven, CA_SHIFT_DRIVING_LIMIT);
     let by_duty = shifts_before(driving.saturating_add(other), worked, CA_SHIFT_DUTY_LIMIT);
@@ -333,25 +326,7 @@ impl RuleBook for CanadaBook {
 
     ghost FRUGAL = { true };
 
-    ghost params_of = { λ book. Canada book.berth book.way book.cycle book.day_start };
-
-    ghost is_state_at = { λ book s at. IsStateOf book.berth book.way book.cycle book.day_start s at };
-
-    ghost root_of = { λ book first. root_state book.way book.cycle };
-
-    ghost nexts_of = { λ book s at x. ca_nexts (ca_may book.berth book.way) book.day_start s at x };
-
-    ghost advances_of = { λ book s at x n. ca_advances (ca_may book.berth book.way) book.day_start s at x n };
-
-    ghost covering = { λ book a b at. covers_state (ca_may book.berth book.way) book.day_start a b at };
-
-    ghost idles_of = { λ book s. ca_idles book.berth book.way s };
-
-    ghost ahead_of = { λ book s. ca_ahead (ca_may book.berth book.way) s };
-
-    ghost numbers_of = { λ book s at. ca_numbers s };
-
-    ghost state_of = { λ book ns at. ca_state_of (ca_may book.berth book.way) book.way book.cycle book.day_start ns at };
+    ghost machine = { λ book. ca_book book.berth book.way book.cycle book.day_start };
 
     fn params(&self) -> Params {
         Params::Canada {
@@ -459,37 +434,5 @@ impl RuleBook for CanadaBook {
         Ok(self.state_of(numbers, at))
     }
 
-    ghost root_is_state = { λ book first begins. root_is_state_of book.berth book.way book.cycle book.day_start first };
-
-    ghost next_is_state = { λ book s at x n. next_is_state_of book.berth book.way book.cycle book.day_start s at x n };
-
-    ghost exact = { λ book first h marks timed. ca_exact book.berth book.way book.cycle book.day_start first h marks book.begins timed };
-
-    ghost refuses = { λ book first h marks s x timed r. ca_refuses book.berth book.way book.cycle book.day_start first h marks s x book.begins timed r };
-
-    ghost advances_reach = { λ book s at x n t i o. ca_advances_reach (ca_may book.berth book.way) book.way book.day_start n s at x t (is_may book.berth book.way) i.counts o };
-
-    ghost advances_all = { λ book s at x n marks u i r. ca_advances_all (ca_may book.berth book.way) book.way book.day_start n s at x marks u (is_may book.berth book.way) i.counts r };
-
-    ghost covers_itself = { λ book s at i. ca_covers_itself (ca_may book.berth book.way) book.day_start s at };
-
-    ghost covers_on = { λ book a b c at i j k. ca_covers_on (ca_may book.berth book.way) book.way book.day_start a b c at i.counts };
-
-    ghost simulation = { λ book a b at x n i j h allowed. ca_simulation book.berth book.way book.cycle book.day_start a b at x n i.counts h allowed };
-
-    ghost idles_allowed = { λ book s at y i. ca_idles_allowed book.berth book.way book.cycle book.day_start s y };
-
-    ghost idles_cover = { λ book s at x n t i some long. ca_idles_cover book.berth book.way book.cycle book.day_start s at x n t i };
-
-    ghost better_covers = { λ book first h k marks others a b. ca_better_covers book.berth book.way book.cycle book.day_start first h k marks others a b book.begins };
-
-    ghost ahead_stays = { λ book a at i. ca_ahead_stays book.berth book.way book.day_start a at i.counts };
-
-    ghost ahead_rests = { λ book a at x n i. ca_ahead_rests book.berth book.way book.cycle book.day_start a at x n i.counts };
-
-    ghost numbers_read = { λ book s at. ca_numbers_read book.berth book.way book.cycle book.day_start s at };
-
-    ghost numbers_told = { λ book ns s at. ca_numbers_told book.berth book.way book.cycle book.day_start ns s at };
-
-    ghost numbers_few = { λ book s at. ca_numbers_few book.berth book.way book.cycle book.day_start s at };
+    ghost laws = { λ book. ca_laws book.berth book.way book.cycle book.day_start book.begins };
 }

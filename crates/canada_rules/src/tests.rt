@@ -21,11 +21,11 @@ fn moved<B: RuleBook>(
     act: Activity,
     n: u32,
 ) -> Result<Option<B::State>, NoMemory>
-    requires state { B.is_state_at book.now state.now at }
+    requires state { (B.machine book.now).is_state state.now at }
     requires some { 1 ≤ n }
     requires long { n ≤ LONGEST_HISTORY }
-    requires range { at + unit_minutes (B.params_of book.now) * n < MINUTE_LIMIT }
-    ensures { IfOk result (λ o. IfSome o (λ s. B.is_state_at book.now s (at + unit_minutes (B.params_of book.now) * n))) }
+    requires range { at + unit_minutes (B.machine book.now).params * n < MINUTE_LIMIT }
+    ensures { IfOk result (λ o. IfSome o (λ s. (B.machine book.now).is_state s (at + unit_minutes (B.machine book.now).params * n))) }
 {
     let Nexts { a, b: _, c } = book.advance(state, at, act, n)?;
     if let Some(next) = a {
@@ -191,7 +191,7 @@ fn replays_days_that_defer_their_rest(rt: HostRuntime) -> Result<(), Fail> {
 fn replays_shifts_and_their_rests(rt: HostRuntime) -> Result<(), Fail> {
     let defer = CanadaBook::new(false, RestWay::Defer, 1, 0);
     for (rest, outcome) in [(480, Ok((1, 0))), (479, Err(1800 + 1259))] {
-        // From six in the morning on: thirteen hours at the wheel, and the rest of the tour behind
+        // From six in the morning on: thirteen hours at the wheel, and the rest of the tour after
         // eight hours of rest.
         let parts = [
             (Activity::Off, 1800),

@@ -11,7 +11,7 @@ use Rattle.hvnl_rules.specs.Nights.{Nights, minutes, is_running}
 abbrev pub wide : ℕ → List Limit → ℕ
 wide v ps = count_by (λ p. nat_lt v (slack p)) ps
 
--- The greatest number of them right behind a start. Each long start leaves three limits, the widest of 768 rest units, and the next one is at least 28 rest units away. Each short start leaves three of at most 4 rest units, and the next one is at least one away.
+-- The greatest number of them right after a start. Each long start leaves three limits, the widest of 768 rest units, and the next one is at least 28 rest units away. Each short start leaves three of at most 4 rest units, and the next one is at least one away.
 abbrev pub most_wide : ℕ → ℕ
 most_wide v = 3 * ((AU_14D_PERIOD - AU_14D_DUTY + AU_LONG_START - 1 - v) / AU_LONG_START) + 3 * (AU_11H_PERIOD - AU_11H_DUTY - v)
 

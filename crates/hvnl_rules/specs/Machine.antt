@@ -16,7 +16,7 @@ use Rattle.hvnl_rules.specs.Nights.{no_nights, minutes, nights_ok, dated, pushed
 abbrev pub root_state : HvnlState
 root_state = record { held = start_held; nights = no_nights }
 
--- whether the unit that begins at this minute may be duty, with rest for good behind it
+-- whether the unit that begins at this minute may be duty, with rest for good after it
 abbrev pub duty_ok : HvnlState → ℕ → Bool
 duty_ok s at = may_spend (begun s.held) && nights_ok (at + minutes 1) (pushed at s.held.run s.nights)
 

@@ -1,16 +1,12 @@
 //! The rule book.
-ghost use Rattle.std.specs.Prelude.{◌≡◌, ◌+◌, ◌*◌, ◌<◌, ◌≤◌, Bool, true, false, Some, None, IfOk, if◌then◌else◌};
+ghost use Rattle.std.specs.Prelude.{◌≡◌, ◌+◌, ◌<◌, false, Some, None, IfOk, if◌then◌else◌};
 ghost use Rattle.duty_core.specs.declared.params.Params.TheVariants.{Hvnl};
 ghost use Rattle.duty_core.specs.declared.limits.TheConstants.{MINUTE_LIMIT};
 ghost use Rattle.rule_core.specs.Reach.{listed};
 ghost use Rattle.hvnl_rules.specs.Nights.{minutes};
-ghost use Rattle.hvnl_rules.specs.Machine.{IsHvnlState, root_state, plain, hvnl_nexts, hvnl_step, goes_on, listed_state, hvnl_advances, hvnl_idles};
-ghost use Rattle.hvnl_rules.specs.Exact.{hvnl_exact};
-ghost use Rattle.hvnl_rules.specs.Steps.{hvnl_advances_reach, hvnl_advances_all, hvnl_refuses, root_is_state, next_is_state};
-ghost use Rattle.hvnl_rules.specs.Numbers.{hvnl_numbers, hvnl_state_of};
-ghost use Rattle.hvnl_rules.specs.NumberLaws.{better_timed, never, hvnl_numbers_read, hvnl_numbers_told, hvnl_numbers_few};
-ghost use Rattle.hvnl_rules.specs.Better.{hvnl_better_covers};
-ghost use Rattle.hvnl_rules.specs.Covers.{covers_state, hvnl_covers_itself, hvnl_covers_on, hvnl_simulation, hvnl_idles_allowed, hvnl_idles_cover};
+ghost use Rattle.hvnl_rules.specs.Machine.{IsHvnlState, hvnl_step, goes_on, listed_state};
+ghost use Rattle.hvnl_rules.specs.Book.{hvnl_book};
+ghost use Rattle.hvnl_rules.specs.Laws.BookLaws.{hvnl_laws};
 
 use crate::held;
 use crate::state::HvnlState;
@@ -30,7 +26,7 @@ pub struct HvnlBook {
 impl HvnlBook {
     /// The book.
     pub fn new(alloc: Global) -> HvnlBook
-        ensures { ⟦<HvnlBook as RuleBook>⟧.params_of result ≡ Hvnl }
+        ensures { (⟦<HvnlBook as RuleBook>⟧.machine result).params ≡ Hvnl }
     {
         HvnlBook { alloc }
     }
@@ -102,25 +98,7 @@ impl RuleBook for HvnlBook {
 
     ghost FRUGAL = { false };
 
-    ghost params_of = { λ book. Hvnl };
-
-    ghost is_state_at = { λ book s at. IsHvnlState s at };
-
-    ghost root_of = { λ book first. root_state };
-
-    ghost nexts_of = { λ book s at x. hvnl_nexts s at x };
-
-    ghost advances_of = { λ book s at x n. hvnl_advances s at x n };
-
-    ghost covering = { λ book a b at. covers_state a b };
-
-    ghost idles_of = { λ book s. hvnl_idles };
-
-    ghost ahead_of = { λ book s. false };
-
-    ghost numbers_of = { λ book s at. hvnl_numbers s at };
-
-    ghost state_of = { λ book ns at. hvnl_state_of ns at };
+    ghost machine = { λ book. hvnl_book };
 
     fn params(&self) -> Params {
         Params::Hvnl {}
@@ -190,37 +168,5 @@ impl RuleBook for HvnlBook {
         HvnlState::of_numbers(self.alloc, numbers, at)
     }
 
-    ghost root_is_state = { λ book first begins. root_is_state first };
-
-    ghost next_is_state = { λ book s at x n. next_is_state s at x n };
-
-    ghost exact = { λ book first h marks timed. hvnl_exact first h marks timed };
-
-    ghost refuses = { λ book first h marks s x timed r. hvnl_refuses first h marks s x timed r };
-
-    ghost advances_reach = { λ book s at x n t i. hvnl_advances_reach n s at x t };
-
-    ghost advances_all = { λ book s at x n marks u i. hvnl_advances_all n s at x marks u };
-
-    ghost covers_itself = { λ book s at i. hvnl_covers_itself s };
-
-    ghost covers_on = { λ book a b c at i j k. hvnl_covers_on a b c };
-
-    ghost simulation = { λ book a b at x n i j h allowed. hvnl_simulation a b at x n j h };
-
-    ghost idles_allowed = { λ book s at y i. hvnl_idles_allowed y };
-
-    ghost idles_cover = { λ book s at x n t i some long idle allowed o. hvnl_idles_cover s at x n t idle allowed o };
-
-    ghost better_covers = { λ book first h k marks others a b timed g r q. hvnl_better_covers first h marks k others a b timed (better_timed first h marks k others timed g) g r q };
-
-    ghost ahead_stays = { λ book a at i e. never e };
-
-    ghost ahead_rests = { λ book a at x n i e. never e };
-
-    ghost numbers_read = { λ book s at i. hvnl_numbers_read s at i };
-
-    ghost numbers_told = { λ book ns s at e. hvnl_numbers_told ns s at e };
-
-    ghost numbers_few = { λ book s at i. hvnl_numbers_few s at i };
+    ghost laws = { λ book. hvnl_laws };
 }

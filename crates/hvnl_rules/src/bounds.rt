@@ -32,7 +32,7 @@ fn wide(units: u64, limits: &[Limit]) -> u64
     count
 }
 
-/// The greatest number of limits that stay open for more than `units` rest units, right behind a
+/// The greatest number of limits that stay open for more than `units` rest units, right after a
 /// start.
 fn most_wide(units: u64) -> u64
     ensures { result ≡ most_wide_of units }

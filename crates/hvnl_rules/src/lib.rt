@@ -5,6 +5,7 @@
 mod book;
 mod bounds;
 mod held;
+mod laws;
 mod nights;
 mod numbers;
 mod state;
@@ -12,5 +13,6 @@ mod state;
 mod tests;
 
 pub use book::HvnlBook;
+pub use laws::successor_is_one_at_most;
 pub use nights::NightLog;
 pub use state::HvnlState;

@@ -8,8 +8,8 @@ use Rattle.duty_core.specs.declared.mark.Mark.{Mark}
 use Rattle.rule_core.specs.declared.nexts.Next.{Next}
 use Rattle.rule_core.specs.declared.nexts.Nexts.{Nexts}
 use Rattle.rule_core.specs.Reach.{listed, IsOneOf, Reaches}
-use Rattle.rule_core.specs.OneOf.{one_of-append_right}
-use Rattle.rule_core.specs.ReachLaws.{reached_state}
+use Rattle.rule_core.specs.Laws.OneOf.{one_of-append_right}
+use Rattle.rule_core.specs.Laws.ReachLaws.{reached_state}
 
 -- the first of the successors is one of those listed
 pub first_listed : {S : Type 0} (ns : Nexts S) (t : Next S) (l : List (Next S)) → listed ns ≡ l → ns.a ≡ Some t → IsOneOf l t

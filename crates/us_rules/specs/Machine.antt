@@ -68,7 +68,7 @@ week_ok days day_start c at x = cond (drives x) (nat_le (sum (week_after day_sta
 abbrev pub us_made : SplitCount → BreakCount → WeekCount → UsState
 us_made count rest_break week = record { split = count; rest_break = rest_break; week = week }
 
--- behind the rest before a history
+-- after the rest before a history
 abbrev pub root_state : ℕ → UsState
 root_state days = us_made fresh_count (break_made US_BREAK 0) (week_made US_RESTART (replicate days 0))
 

@@ -7,18 +7,14 @@ ghost use Rattle.duty_core.specs.UsRules.{us_week_limit};
 ghost use Rattle.day_sums.specs.Sums.{today};
 ghost use Rattle.day_sums.specs.Counted.{turned};
 ghost use Rattle.rule_core.specs.Reach.{listed};
-ghost use Rattle.us_rules.specs.Machine.{IsUsState, root_state, begins_day, day_so_far, us_nexts, us_advances, first_of, goes_on, week_covers, us_covers, us_ahead, us_idles};
-ghost use Rattle.us_rules.specs.Numbers.{us_numbers, us_state_of, holds_break_week};
+ghost use Rattle.us_rules.specs.Machine.{IsUsState, begins_day, day_so_far, us_advances, first_of, goes_on, week_covers};
+ghost use Rattle.us_rules.specs.Numbers.{us_state_of, holds_break_week};
 ghost use Rattle.us_rules.specs.Ends.{next_with, nexts_made, first_next, onward};
 ghost use Rattle.us_rules.specs.Spans.{left_of_day, week_span};
 ghost use Rattle.us_rules.specs.Advance.{IsSteady};
-ghost use Rattle.us_rules.specs.Lasting.{us_covers_itself, us_covers_on, us_simulation, us_ahead_stays, us_ahead_rests, us_idles_allowed, us_idles_cover};
-ghost use Rattle.us_rules.specs.Better.{us_better_covers};
-ghost use Rattle.us_rules.specs.NumberLaws.{us_numbers_read, us_numbers_told, us_numbers_few};
-ghost use Rattle.us_rules.specs.States.{some_days, few_days, root_is_us_state, next_is_us_state};
-ghost use Rattle.us_rules.specs.Advance.{us_advances_reach, us_advances_all};
-ghost use Rattle.us_rules.specs.Exact.{us_exact};
-ghost use Rattle.us_rules.specs.Single.{us_refuses};
+ghost use Rattle.us_rules.specs.Laws.States.{some_days, few_days};
+ghost use Rattle.us_rules.specs.Book.{us_book};
+ghost use Rattle.us_rules.specs.Laws.BookLaws.{us_laws};
 
 use crate::ends::Ends;
 use crate::numbers::{COUNTS, item, split_by};
@@ -54,7 +50,7 @@ impl UsBook {
     pub fn new(berth: bool, days: u8, day_start: u16) -> UsBook
         requires period { (days ≡ 7) ⊎ (days ≡ 8) }
         requires start { day_start < 1440 }
-        ensures { ⟦<UsBook as RuleBook>⟧.params_of result ≡ UsProperty berth days day_start }
+        ensures { (⟦<UsBook as RuleBook>⟧.machine result).params ≡ UsProperty berth days day_start }
     {
         UsBook {
             berth,
@@ -338,25 +334,7 @@ impl RuleBook for UsBook {
 
     ghost FRUGAL = { true };
 
-    ghost params_of = { λ book. UsProperty book.berth book.days book.day_start };
-
-    ghost is_state_at = { λ book s at. IsUsState book.berth book.days book.day_start s at };
-
-    ghost root_of = { λ book first. root_state book.days };
-
-    ghost nexts_of = { λ book s at x. us_nexts book.berth book.days book.day_start s at x };
-
-    ghost advances_of = { λ book s at x n. us_advances book.berth book.days book.day_start s at x n };
-
-    ghost covering = { λ book a b at. us_covers book.berth book.days book.day_start a b at };
-
-    ghost idles_of = { λ book s. us_idles book.berth s };
-
-    ghost ahead_of = { λ book s. us_ahead book.berth s };
-
-    ghost numbers_of = { λ book s at. us_numbers s };
-
-    ghost state_of = { λ book ns at. us_state_of book.berth book.days book.day_start ns at };
+    ghost machine = { λ book. us_book book.berth book.days book.day_start };
 
     fn params(&self) -> Params {
         Params::UsProperty {
@@ -466,37 +444,5 @@ impl RuleBook for UsBook {
         Ok(self.state_of(numbers, at))
     }
 
-    ghost root_is_state = { λ book first begins. root_is_us_state book.berth book.days book.day_start first };
-
-    ghost next_is_state = { λ book s at x n. next_is_us_state book.berth book.days book.day_start s at x n };
-
-    ghost exact = { λ book first h marks timed. us_exact book.berth book.days book.day_start first h marks (some_days book.days book.week) timed };
-
-    ghost refuses = { λ book first h marks s x timed r. us_refuses book.berth book.days book.day_start first h marks s x (some_days book.days book.week) timed r };
-
-    ghost advances_reach = { λ book s at x n t i. us_advances_reach book.berth book.days book.day_start n s at x t };
-
-    ghost advances_all = { λ book s at x n marks u i. us_advances_all book.berth book.days book.day_start n s at x marks u };
-
-    ghost covers_itself = { λ book s at i. us_covers_itself book.berth book.days book.day_start s at };
-
-    ghost covers_on = { λ book a b c at i j k. us_covers_on book.berth book.days book.day_start a b c at i };
-
-    ghost simulation = { λ book a b at x n i j. us_simulation book.berth book.days book.day_start a b at x n (some_days book.days book.week) i j };
-
-    ghost idles_allowed = { λ book s at y i. us_idles_allowed book.berth book.days book.day_start s y };
-
-    ghost idles_cover = { λ book s at x n t i some long. us_idles_cover book.berth book.days book.day_start s at x n t (some_days book.days book.week) i };
-
-    ghost better_covers = { λ book first h k marks others a b. us_better_covers book.berth book.days book.day_start first h k marks others a b (some_days book.days book.week) };
-
-    ghost ahead_stays = { λ book a at. us_ahead_stays book.berth book.days book.day_start a at };
-
-    ghost ahead_rests = { λ book a at x n. us_ahead_rests book.berth book.days book.day_start a at x n (some_days book.days book.week) };
-
-    ghost numbers_read = { λ book s at. us_numbers_read book.berth book.days book.day_start s at };
-
-    ghost numbers_told = { λ book ns s at. us_numbers_told book.berth book.days book.day_start ns s at };
-
-    ghost numbers_few = { λ book s at. us_numbers_few book.berth book.days book.day_start s at (few_days book.days book.week) };
+    ghost laws = { λ book. us_laws book.berth book.days book.day_start (some_days book.days book.week) (few_days book.days book.week) };
 }

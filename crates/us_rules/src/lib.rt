@@ -3,10 +3,12 @@
 
 mod book;
 mod ends;
+mod laws;
 mod numbers;
 mod state;
 #[cfg(test)]
 mod tests;
 
 pub use book::UsBook;
+pub use laws::successors_are_two_at_most;
 pub use state::{BreakCount, UsState, WeekCount};

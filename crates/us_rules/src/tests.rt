@@ -19,11 +19,11 @@ fn moved<B: RuleBook>(
     act: Activity,
     n: u32,
 ) -> Result<Option<B::State>, NoMemory>
-    requires state { B.is_state_at book.now state.now at }
+    requires state { (B.machine book.now).is_state state.now at }
     requires some { 1 ≤ n }
     requires long { n ≤ LONGEST_HISTORY }
-    requires range { at + unit_minutes (B.params_of book.now) * n < MINUTE_LIMIT }
-    ensures { IfOk result (λ o. IfSome o (λ s. B.is_state_at book.now s (at + unit_minutes (B.params_of book.now) * n))) }
+    requires range { at + unit_minutes (B.machine book.now).params * n < MINUTE_LIMIT }
+    ensures { IfOk result (λ o. IfSome o (λ s. (B.machine book.now).is_state s (at + unit_minutes (B.machine book.now).params * n))) }
 {
     let Nexts { a, b: _, c } = book.advance(state, at, act, n)?;
     if let Some(next) = a {
@@ -43,9 +43,9 @@ fn declared<B: RuleBook>(
     at: Minute,
     act: Activity,
 ) -> Result<Option<B::State>, NoMemory>
-    requires state { B.is_state_at book.now state.now at }
-    requires range { at + unit_minutes (B.params_of book.now) < MINUTE_LIMIT }
-    ensures { IfOk result (λ o. IfSome o (λ s. B.is_state_at book.now s (at + unit_minutes (B.params_of book.now)))) }
+    requires state { (B.machine book.now).is_state state.now at }
+    requires range { at + unit_minutes (B.machine book.now).params < MINUTE_LIMIT }
+    ensures { IfOk result (λ o. IfSome o (λ s. (B.machine book.now).is_state s (at + unit_minutes (B.machine book.now).params))) }
 {
     let Nexts { a: _, b, c: _ } = book.step(state, at, act)?;
     match b {
@@ -242,8 +242,8 @@ fn counts_the_window_of_fourteen_hours(rt: HostRuntime) -> Result<(), Fail> {
     let book = UsBook::new(false, 8, 0);
     let at_its_end = [(Activity::Wait, 839), (Activity::Drive, 1)];
     assert_eq!(rt; replayed(rt.alloc(), &book, &at_its_end)?, Ok(1));
-    let behind_it = [(Activity::Wait, 840), (Activity::Drive, 1)];
-    assert_eq!(rt; replayed(rt.alloc(), &book, &behind_it)?, Err(840));
+    let after_it = [(Activity::Wait, 840), (Activity::Drive, 1)];
+    assert_eq!(rt; replayed(rt.alloc(), &book, &after_it)?, Err(840));
     Ok(())
 }
 

@@ -1,6 +1,7 @@
 use Rattle.cycles_deferral.specs.DayMachine.{days_begun}
 use Rattle.cycles_deferral.specs.DayCovers.{DaysCover}
-use Rattle.canada_rules.specs.Covers.{days_cover, days_decide, tests_agree}
+use Rattle.canada_rules.specs.Covers.{days_cover}
+use Rattle.canada_rules.specs.Laws.Covers.{days_decide, tests_agree}
 use Rattle.canada_rules.proofs.covers.days_cover.Goals as goal
 
 pub returns : goal.returns

@@ -1,6 +1,7 @@
 use Rattle.std.proofs.Common.{◌≡◌, length, sym, ◌∙◌, ap, arith}
 use Rattle.std.specs.Prelude.{List, ℕ, Bool}
-use Rattle.day_sums.specs.Counted.{turned, length-turned}
+use Rattle.day_sums.specs.Counted.{turned}
+use Rattle.day_sums.specs.Laws.Counted.{length-turned}
 use Rattle.canada_rules.specs.Covers.{sums_within}
 use Rattle.canada_rules.proofs.SumLaws.{when_same}
 use Rattle.canada_rules.proofs.covers.sums_cover.Goals as goal

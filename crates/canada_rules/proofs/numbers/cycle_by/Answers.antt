@@ -1,7 +1,7 @@
 use Rattle.std.proofs.Common.{◌≡◌, true, false, refl, sym, ◌∙◌, subst}
 use Rattle.day_sums.specs.Sums.{AreSums}
 use Rattle.canada_rules.specs.Numbers.{cycle_of}
-use Rattle.canada_rules.specs.NumberLaws.{no_cycle, cycle_read, rest_all}
+use Rattle.canada_rules.specs.Laws.NumberLaws.{no_cycle, cycle_read, rest_all}
 use Rattle.canada_rules.proofs.numbers.cycle_by.Goals as goal
 
 -- the last numbers are no sums of days

@@ -1,4 +1,4 @@
-use Rattle.canada_rules.specs.NumberLaws.{days_read}
+use Rattle.canada_rules.specs.Laws.NumberLaws.{days_read}
 use Rattle.canada_rules.proofs.numbers.parts_of_days.Goals as goal
 
 pub returns : goal.returns

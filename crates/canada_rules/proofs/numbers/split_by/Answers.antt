@@ -1,7 +1,7 @@
 use Rattle.std.proofs.Common.{◌≡◌, true, false, sym, ◌∙◌, subst}
 use Rattle.sleeper_split.specs.Machine.{IsSplitCount, made}
 use Rattle.canada_rules.specs.Numbers.{split_of}
-use Rattle.canada_rules.specs.NumberLaws.{no_split}
+use Rattle.canada_rules.specs.Laws.NumberLaws.{no_split}
 use Rattle.canada_rules.proofs.numbers.split_by.Goals as goal
 
 -- no counts have these numbers

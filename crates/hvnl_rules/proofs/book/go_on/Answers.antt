@@ -1,7 +1,7 @@
 use Rattle.std.proofs.Common.{◌≡◌, ℕ, ◌+◌, ◌-◌, ◌*◌, suc, cond, None, Some, ◌∙◌, ap, subst, arith}
 use Rattle.hvnl_rules.specs.Nights.{minutes}
 use Rattle.hvnl_rules.specs.Machine.{IsHvnlState, hvnl_step, goes_on}
-use Rattle.hvnl_rules.specs.Steps.{step_is_state}
+use Rattle.hvnl_rules.specs.Laws.Steps.{step_is_state}
 use Rattle.hvnl_rules.proofs.book.go_on.Goals as goal
 
 -- a rule refuses one

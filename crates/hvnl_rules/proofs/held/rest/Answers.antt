@@ -1,7 +1,7 @@
 use Rattle.std.proofs.Common.{◌≤◌, sym, subst}
 use Rattle.std.specs.Prelude.{All}
 use Rattle.duty_core.specs.declared.limits.TheConstants.{AU_7D_REST}
-use Rattle.hvnl_rules.specs.CountedLaws.{passed_short}
+use Rattle.hvnl_rules.specs.Laws.CountedLaws.{passed_short}
 use Rattle.hvnl_rules.proofs.held.rest.Goals as goal
 
 pub settle-requires : goal.settle-requires

@@ -1,7 +1,7 @@
 use Rattle.std.proofs.Common.{◌≡◌, ℕ, ◌-◌, ◌≤◌, true, false, cond, sym, ◌∙◌, ap, arith}
 use Rattle.std.specs.Prelude.{count_by}
 use Rattle.hvnl_rules.specs.Nights.{dates_from, is_safe}
-use Rattle.hvnl_rules.specs.Dates.{count_few, counts_on}
+use Rattle.hvnl_rules.specs.Laws.Dates.{count_few, counts_on}
 use Rattle.hvnl_rules.proofs.nights.has_four.Goals.{then-is_safe, else-is_safe}
 use Rattle.hvnl_rules.proofs.nights.has_four.Goals as goal
 

@@ -1,7 +1,7 @@
 use Rattle.std.proofs.Common.{◌≡◌, ◌-◌, true, sym, ◌∙◌, subst, arith}
 use Rattle.std.specs.List.{list_any}
 use Rattle.hvnl_rules.specs.Nights.{dates_from, end_date, is_pair}
-use Rattle.hvnl_rules.specs.Dates.{none_on, one_on}
+use Rattle.hvnl_rules.specs.Laws.Dates.{none_on, one_on}
 use Rattle.hvnl_rules.proofs.nights.has_two.Goals as goal
 
 pub returns-then-is_pair : goal.returns-then-is_pair

@@ -1,5 +1,5 @@
 use Rattle.std.proofs.Common.{arith, refl}
-use Rattle.hvnl_rules.specs.NumberLaws.{needs_read}
+use Rattle.hvnl_rules.specs.Laws.NumberLaws.{needs_read}
 use Rattle.hvnl_rules.proofs.numbers.needs_in.Goals as goal
 
 pub loop-i-preserved : goal.loop-i-preserved

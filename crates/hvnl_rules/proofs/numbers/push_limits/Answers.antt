@@ -1,5 +1,5 @@
 use Rattle.std.proofs.Common.{arith, refl}
-use Rattle.hvnl_rules.specs.NumberLaws.{limits_pushed}
+use Rattle.hvnl_rules.specs.Laws.NumberLaws.{limits_pushed}
 use Rattle.hvnl_rules.proofs.numbers.push_limits.Goals as goal
 
 pub loop-limit-preserved : goal.loop-limit-preserved

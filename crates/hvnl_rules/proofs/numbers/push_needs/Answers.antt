@@ -1,5 +1,5 @@
 use Rattle.std.proofs.Common.{arith, refl}
-use Rattle.hvnl_rules.specs.NumberLaws.{needs_pushed}
+use Rattle.hvnl_rules.specs.Laws.NumberLaws.{needs_pushed}
 use Rattle.hvnl_rules.proofs.numbers.push_needs.Goals as goal
 
 pub loop-need-preserved : goal.loop-need-preserved

@@ -6,11 +6,10 @@ use Rattle.us_rules.proofs.tests.declared.Goals as goal
 -- a successor is a state
 pub returns-in-Some : goal.returns-in-Some
 returns-in-Some g c =
-    let book = g.B.RuleBook in
-    let laws = g.met.B.RuleBook in
-    let b = c.args.book.now in
+    let m = g.B.RuleBook.machine c.args.book.now in
+    let law = g.met.B.RuleBook.laws c.args.book.now in
     let s = c.args.state.now in
     let t = c.in-Some.next in
     let there : c.in_ok-b.field-0.b ≡ Some t = cc in
-    let one : IsOneOf (book.nexts_of b s c.args.at c.args.act) t = middle_listed c.in_ok-b.field-0 t (book.nexts_of b s c.args.at c.args.act) c.in_ok-b.ensures.nexts there in
-    laws.next_is_state b s c.args.at c.args.act t c.requires.state one
+    let one : IsOneOf (m.nexts s c.args.at c.args.act) t = middle_listed c.in_ok-b.field-0 t (m.nexts s c.args.at c.args.act) c.in_ok-b.ensures.nexts there in
+    law.lasts.next_is_state s c.args.at c.args.act t c.requires.state one

@@ -8,24 +8,22 @@ use Rattle.us_rules.proofs.tests.moved.Goals as goal
 -- what an advance gives is reached, and so is a state
 pub returns-in-Some : goal.returns-in-Some
 returns-in-Some g c =
-    let book = g.B.RuleBook in
-    let laws = g.met.B.RuleBook in
-    let b = c.args.book.now in
+    let m = g.B.RuleBook.machine c.args.book.now in
+    let law = g.met.B.RuleBook.laws c.args.book.now in
     let s = c.args.state.now in
     let t = c.in-Some.next in
     let there : c.in_ok-a.field-0.a ≡ Some t = cc in
-    let one : IsOneOf (book.advances_of b s c.args.at c.args.act c.args.n) t = first_listed c.in_ok-a.field-0 t (book.advances_of b s c.args.at c.args.act c.args.n) c.in_ok-a.ensures.nexts there in
-    let path = laws.advances_reach b s c.args.at c.args.act c.args.n t c.requires.state one in
-    equal_units_state (unit_minutes (book.params_of b)) (book.is_state_at b) (book.nexts_of b) (laws.next_is_state b) s c.args.at c.args.act c.args.n (option_to_list t.mark) t.state c.requires.state path
+    let one : IsOneOf (m.advances s c.args.at c.args.act c.args.n) t = first_listed c.in_ok-a.field-0 t (m.advances s c.args.at c.args.act c.args.n) c.in_ok-a.ensures.nexts there in
+    let path = law.advances_reach s c.args.at c.args.act c.args.n t c.requires.state one in
+    equal_units_state (unit_minutes m.params) m.is_state m.nexts law.lasts.next_is_state s c.args.at c.args.act c.args.n (option_to_list t.mark) t.state c.requires.state path
 
 pub returns-in-Some-c : goal.returns-in-Some-c
 returns-in-Some-c g c =
-    let book = g.B.RuleBook in
-    let laws = g.met.B.RuleBook in
-    let b = c.args.book.now in
+    let m = g.B.RuleBook.machine c.args.book.now in
+    let law = g.met.B.RuleBook.laws c.args.book.now in
     let s = c.args.state.now in
     let t = c.in-Some-c.full in
     let there : c.in_ok-a.field-0.c ≡ Some t = cc in
-    let one : IsOneOf (book.advances_of b s c.args.at c.args.act c.args.n) t = last_listed c.in_ok-a.field-0 t (book.advances_of b s c.args.at c.args.act c.args.n) c.in_ok-a.ensures.nexts there in
-    let path = laws.advances_reach b s c.args.at c.args.act c.args.n t c.requires.state one in
-    equal_units_state (unit_minutes (book.params_of b)) (book.is_state_at b) (book.nexts_of b) (laws.next_is_state b) s c.args.at c.args.act c.args.n (option_to_list t.mark) t.state c.requires.state path
+    let one : IsOneOf (m.advances s c.args.at c.args.act c.args.n) t = last_listed c.in_ok-a.field-0 t (m.advances s c.args.at c.args.act c.args.n) c.in_ok-a.ensures.nexts there in
+    let path = law.advances_reach s c.args.at c.args.act c.args.n t c.requires.state one in
+    equal_units_state (unit_minutes m.params) m.is_state m.nexts law.lasts.next_is_state s c.args.at c.args.act c.args.n (option_to_list t.mark) t.state c.requires.state path

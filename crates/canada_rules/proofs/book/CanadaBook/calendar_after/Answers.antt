@@ -1,5 +1,5 @@
 use Rattle.std.proofs.Common.{◌∙◌}
-use Rattle.canada_rules.specs.Stretch.{calendar_run_one}
+use Rattle.canada_rules.specs.Laws.Stretch.{calendar_run_one}
 use Rattle.canada_rules.proofs.book.CanadaBook.calendar_after.Goals as goal
 
 -- one minute is one

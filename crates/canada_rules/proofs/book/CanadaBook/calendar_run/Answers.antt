@@ -1,6 +1,6 @@
 use Rattle.std.proofs.Common.{sym, subst}
 use Rattle.cycles_deferral.specs.CycleRuns.{HasRoomFor}
-use Rattle.canada_rules.specs.Stretch.{has_room_for}
+use Rattle.canada_rules.specs.Laws.Stretch.{has_room_for}
 use Rattle.canada_rules.proofs.book.CanadaBook.calendar_run.Goals as goal
 
 -- minutes of duty fit in their day

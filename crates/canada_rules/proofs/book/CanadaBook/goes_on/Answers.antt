@@ -1,6 +1,7 @@
 use Rattle.std.proofs.Common.{◌≡◌, ℕ, ◌+◌, ◌-◌, None, Some, sym, ◌∙◌, ap, subst, arith}
 use Rattle.canada_rules.specs.Machine.{ca_may, goes_on}
-use Rattle.canada_rules.specs.Stretch.{IsGoing, goes_on_by, keeps_going}
+use Rattle.canada_rules.specs.Stretch.{IsGoing}
+use Rattle.canada_rules.specs.Laws.Stretch.{goes_on_by, keeps_going}
 use Rattle.canada_rules.proofs.book.CanadaBook.goes_on.Goals as goal
 
 -- none is taken

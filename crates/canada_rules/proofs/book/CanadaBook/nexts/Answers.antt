@@ -1,6 +1,7 @@
 use Rattle.std.proofs.Common.{◌-◌, sym, ◌∙◌, ap}
 use Rattle.canada_rules.specs.Machine.{ca_may}
-use Rattle.canada_rules.specs.Ends.{ca_ends, nexts_found}
+use Rattle.canada_rules.specs.Ends.{ca_ends}
+use Rattle.canada_rules.specs.Laws.Ends.{nexts_found}
 use Rattle.canada_rules.proofs.book.CanadaBook.nexts.Goals as goal
 
 pub returns : goal.returns

@@ -1,7 +1,7 @@
 use Rattle.std.proofs.Common.{◌≡◌, true, sym, ◌∙◌, ap, subst, arith, inl, inr}
 use Rattle.canada_rules.specs.Machine.{ca_may, day_made, calendar_made, ca_made}
 use Rattle.canada_rules.specs.Numbers.{split_of, days_of, cycle_of, is_count, are_days, is_cycle, fits_day}
-use Rattle.canada_rules.specs.NumberLaws.{let_through, held_back, no_state, parts_made, reads_state}
+use Rattle.canada_rules.specs.Laws.NumberLaws.{let_through, held_back, no_state, parts_made, reads_state}
 use Rattle.canada_rules.proofs.book.CanadaBook.state_of.Goals as goal
 
 -- too few numbers, or no counts of split rests, no days or no counts of a cycle have them

@@ -1,7 +1,8 @@
 use Rattle.std.proofs.Common.{◌≡◌, None, Some, sym, ◌∙◌, ap}
 use Rattle.canada_rules.specs.Machine.{ca_may}
 use Rattle.canada_rules.specs.Ends.{next_with}
-use Rattle.canada_rules.specs.Stretch.{calendar_run, split_at_once, found, stretch_is}
+use Rattle.canada_rules.specs.Stretch.{calendar_run, split_at_once}
+use Rattle.canada_rules.specs.Laws.Stretch.{found, stretch_is}
 use Rattle.canada_rules.proofs.book.CanadaBook.stretch.Goals as goal
 
 -- a rule of the calendar refuses one of the minutes

@@ -3,10 +3,13 @@ use Rattle.std.specs.Prelude.{flat_map}
 use Rattle.std.specs.Option.{option_to_list}
 use Rattle.rule_core.specs.declared.nexts.Next.{Next}
 use Rattle.rule_core.specs.Reach.{listed, IsOneOf}
+use Rattle.rule_core.specs.Laws.RefusalLaws.{given_refused}
 use Rattle.canada_rules.specs.declared.state.CanadaState.{CanadaState}
 use Rattle.canada_rules.specs.Machine.{ca_may, goes_on, ca_advances}
-use Rattle.canada_rules.specs.Stretch.{IsGoing, next_goes}
-use Rattle.canada_rules.specs.Ends.{nexts_made, advances_are, is_listed}
+use Rattle.canada_rules.specs.Stretch.{IsGoing}
+use Rattle.canada_rules.specs.Laws.Stretch.{next_goes}
+use Rattle.canada_rules.specs.Laws.Ends.{nexts_made, advances_are, is_listed}
+use Rattle.canada_rules.specs.Laws.Single.{ca_refuses_units}
 use Rattle.canada_rules.proofs.book.CanadaBookRuleBook.advance.Goals as goal
 
 pub onward-requires-clause-going : goal.onward-requires-clause-going
@@ -48,3 +51,9 @@ returns-clause-nexts c =
     ∙ (advances_are may book.day_start c.nexts-a.result at x n
     ∙ (ap (flat_map f) c.nexts-a.ensures
     ∙ ap (ca_advances may book.day_start c.args.state.now c.args.at x) e))))
+
+pub returns-clause-refused : goal.returns-clause-refused
+returns-clause-refused c = λ first h marks timed e r.
+    let book = c.args.self.now in
+    given_refused _ (λ at. ca_advances (ca_may book.berth book.way) book.day_start c.args.state.now at c.args.act c.args.n) c.args.at _ _ (returns-clause-nexts c) e
+    (ca_refuses_units book.berth book.way book.cycle book.day_start first h marks c.args.state.now c.args.act c.args.n book.begins timed r)

@@ -1,6 +1,6 @@
 use Rattle.std.proofs.Common.{rules, ◌≡◌, Bool, true, cond, Some, None, sym, ◌∙◌, ap}
 use Rattle.hvnl_rules.specs.Numbers.{fits}
-use Rattle.hvnl_rules.specs.NumberLaws.{told_means}
+use Rattle.hvnl_rules.specs.Laws.NumberLaws.{told_means}
 use Rattle.hvnl_rules.proofs.state.HvnlState.of_numbers.Goals as goal
 
 pub returns-then-branch : goal.returns-then-branch

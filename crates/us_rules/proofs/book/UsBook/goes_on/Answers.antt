@@ -1,7 +1,7 @@
 use Rattle.std.proofs.Common.{◌≡◌, ℕ, ◌+◌, ◌-◌, None, Some, sym, ◌∙◌, ap, subst, arith}
 use Rattle.us_rules.specs.Machine.{IsUsState, goes_on}
 use Rattle.us_rules.specs.Advance.{IsSteady}
-use Rattle.us_rules.specs.Spans.{steady_goes, goes_more, goes_kept, goes_steady}
+use Rattle.us_rules.specs.Laws.Spans.{steady_goes, goes_more, goes_kept, goes_steady}
 use Rattle.us_rules.proofs.book.UsBook.goes_on.Goals as goal
 
 -- the units of one day more are taken

@@ -3,7 +3,8 @@ use Rattle.std.specs.Prelude.{sum, nat_le, ◌&&◌}
 use Rattle.duty_core.specs.Activity.{drives}
 use Rattle.duty_core.specs.UsRules.{us_week_limit}
 use Rattle.us_rules.specs.declared.state.WeekCount.{WeekCount}
-use Rattle.us_rules.specs.Spans.{break_span_ok, week_span_ok, span_found, span_none}
+use Rattle.us_rules.specs.Spans.{break_span_ok}
+use Rattle.us_rules.specs.Laws.Spans.{week_span_ok, span_found, span_none}
 use Rattle.us_rules.proofs.book.UsBook.nexts.Goals as goal
 use Rattle.us_rules.proofs.book.UsBook.nexts.Goals.{then-not-allows-via-then-not-allows, then-not-allows-via-else-not-allows+then-not-week_allows}
 

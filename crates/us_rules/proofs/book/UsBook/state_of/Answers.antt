@@ -4,8 +4,8 @@ use Rattle.day_sums.specs.Sums.{AreSums}
 use Rattle.us_rules.specs.declared.state.UsState.{UsState}
 use Rattle.us_rules.specs.Machine.{break_made, week_made, us_made}
 use Rattle.us_rules.specs.Numbers.{split_of, state_by, holds_break_week}
-use Rattle.us_rules.specs.NumberLaws.{split_means, no_sums, held_state, rest_all, then_if}
-use Rattle.us_rules.specs.States.{week_counted}
+use Rattle.us_rules.specs.Laws.NumberLaws.{split_means, no_sums, held_state, rest_all, then_if}
+use Rattle.us_rules.specs.Laws.States.{week_counted}
 use Rattle.us_rules.proofs.book.UsBook.state_of.Goals as goal
 
 -- the last numbers are no sums of days

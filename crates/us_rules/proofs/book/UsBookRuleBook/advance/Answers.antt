@@ -1,9 +1,13 @@
 use Rattle.std.proofs.Common.{ℕ, ◌+◌, ◌-◌, ◌∙◌, ap, subst, arith}
 use Rattle.rule_core.specs.Reach.{listed, IsOneOf}
-use Rattle.us_rules.specs.Machine.{IsUsState}
+use Rattle.rule_core.specs.Laws.RefusalLaws.{given_refused}
+use Rattle.us_rules.specs.Machine.{IsUsState, us_advances}
+use Rattle.us_rules.specs.Laws.States.{some_days}
 use Rattle.us_rules.specs.Advance.{IsSteady}
-use Rattle.us_rules.specs.Ends.{nexts_made, onward, is_listed}
-use Rattle.us_rules.specs.Spans.{advances_kept, advances_more}
+use Rattle.us_rules.specs.Ends.{nexts_made, onward}
+use Rattle.us_rules.specs.Laws.Ends.{is_listed}
+use Rattle.us_rules.specs.Laws.Spans.{advances_kept, advances_more}
+use Rattle.us_rules.specs.Laws.Single.{us_refuses_units}
 use Rattle.us_rules.proofs.book.UsBookRuleBook.advance.Goals as goal
 
 pub onward-requires-clause-state : goal.onward-requires-clause-state
@@ -41,3 +45,16 @@ returns-clause-nexts c =
     ∙ (ap (λ o. listed (nexts_made a o c.onward-3.result)) c.onward-2.ensures
     ∙ (ap (λ o. listed (nexts_made a b o)) c.onward-3.ensures
     ∙ advances_more book.berth book.days book.day_start c.nexts-nexts.result c.args.state.now c.args.at x first n c.args.n (omega arith) (omega arith) c.nexts-nexts.ensures))
+
+pub returns-then-first-n-clause-refused : goal.returns-then-first-n-clause-refused
+returns-then-first-n-clause-refused c = λ first h marks timed e r.
+    let book = c.args.self.now in
+    given_refused _ (λ at. us_advances book.berth book.days book.day_start c.args.state.now at c.args.act c.args.n) c.args.at _ _
+    (c.nexts-nexts.ensures ∙ ap (us_advances book.berth book.days book.day_start c.args.state.now c.args.at c.args.act) c.if-first-n.true) e
+    (us_refuses_units book.berth book.days book.day_start first h marks c.args.state.now c.args.act c.args.n (some_days book.days book.week) timed r)
+
+pub returns-clause-refused : goal.returns-clause-refused
+returns-clause-refused c = λ first h marks timed e r.
+    let book = c.args.self.now in
+    given_refused _ (λ at. us_advances book.berth book.days book.day_start c.args.state.now at c.args.act c.args.n) c.args.at _ _ (returns-clause-nexts c) e
+    (us_refuses_units book.berth book.days book.day_start first h marks c.args.state.now c.args.act c.args.n (some_days book.days book.week) timed r)
