@@ -15,9 +15,9 @@ use Rattle.cert_text.specs.declared.marks.Marked.{Marked}
 use Rattle.cert_text.specs.BadLine.{line_feeds, AreLines, BeginsCert, IsBadLine}
 use Rattle.cert_text.specs.Form.{IsCertForm}
 use Rattle.cert_text.specs.Spelling.{IsCertText}
-use Rattle.cert_text.specs.Reading.{◌>>=◌, word_at, number_line_at, run_at, behind_run, runs_at, mark_at, behind_mark, marks_at, target_at, shortest_at, infeasible_at, kind_at, claim_of, claim_at, label_at, labels_at, layer_head_at, layer_at, layers_at, whole_at, ended, cert_at, line_at}
-use Rattle.cert_text.specs.WordLaws.{bind_is}
-use Rattle.cert_text.specs.CertTextLaws.{whole_takes, cert_again}
+use Rattle.cert_text.specs.Reading.{◌>>=◌, word_at, number_line_at, run_at, after_run, runs_at, mark_at, after_mark, marks_at, target_at, shortest_at, infeasible_at, kind_at, claim_of, claim_at, label_at, labels_at, layer_head_at, layer_at, layers_at, whole_at, ended, cert_at, line_at}
+use Rattle.cert_text.specs.Laws.WordLaws.{bind_is}
+use Rattle.cert_text.specs.Laws.CertTextLaws.{whole_takes, cert_again}
 use Rattle.cert_text.proofs.Lines.{feeds_append, feeds_of_lines, same_lines, fewer_lines, last_line}
 use Rattle.cert_text.proofs.Readers.{bind_err, Reads, Passes, Stops, reads_weaker, nothing_reads, then_reads, repeat_reads, word_reads}
 use Rattle.cert_text.proofs.LineReaders.{HasRoom, number_line_reads, target_reads, kind_reads, run_reads, mark_reads, label_reads, head_reads}
@@ -42,11 +42,11 @@ layers_reads n few =
 
 runs_reads : (n : ℕ) → Reads (runs_at n) Any
 unfolding runs_at
-runs_reads n = repeat_reads (λ (r : StepRun). r) run_at behind_run (λ n s. Unit {0}) (λ n s inv. run_reads s) n None tt
+runs_reads n = repeat_reads (λ (r : StepRun). r) run_at after_run (λ n s. Unit {0}) (λ n s inv. run_reads s) n None tt
 
 marks_reads : (params : Params) → day_start params < 1440 → (n : ℕ) → n < NUMBER_LIMIT → Reads (marks_at params n) Any
 unfolding marks_at
-marks_reads params low n few = repeat_reads (λ (m : Marked). m.mark) (mark_at params) behind_mark HasRoom (mark_reads params low) n (record { least = 0; left = n }) (refl, omega (arith, few))
+marks_reads params low n few = repeat_reads (λ (m : Marked). m.mark) (mark_at params) after_mark HasRoom (mark_reads params low) n (record { least = 0; left = n }) (refl, omega (arith, few))
 
 shortest_reads : (params : Params) → day_start params < 1440 → Reads (shortest_at params) Any
 unfolding shortest_at
@@ -95,7 +95,7 @@ whole_reads params low =
 
 -- ---- the first bad line
 
--- Where reading a certificate stops: within the line behind some lines, with which a text begins; with that line none does.
+-- Where reading a certificate stops: within the line after some lines, with which a text begins; with that line none does.
 record Breaks (params : Params) (bytes : List ℕ) (left : ℕ) : Type 0 where
   count : ℕ
   front : List ℕ
@@ -109,7 +109,7 @@ record Breaks (params : Params) (bytes : List ℕ) (left : ℕ) : Type 0 where
   rest : List ℕ
   form : IsCertForm params cert
   text : IsCertText params cert (front ++ rest)
-  stuck : (words behind tail : List ℕ) → line_feeds words ≡ 0 → within ++ at ≡ words ++ 10 ∷ behind → (other : Cert) → cert_at params (front ++ (words ++ 10 ∷ tail)) ≡ Ok other → ⊥
+  stuck : (words thereafter tail : List ℕ) → line_feeds words ≡ 0 → within ++ at ≡ words ++ 10 ∷ thereafter → (other : Cert) → cert_at params (front ++ (words ++ 10 ∷ tail)) ≡ Ok other → ⊥
 
 -- what is read is a text
 text_of : (params : Params) (text : List ℕ) (cert : Cert) → day_start params < 1440 → whole_at params (text ++ []) ≡ Ok (cert, []) → IsCertForm params cert × IsCertText params cert text
@@ -136,21 +136,21 @@ stops_whole params bytes left low s =
       rest = s.fills.fill;
       form = is.0;
       text = is.1;
-      stuck = λ words behind tail none same other h. stuck words behind tail none same other (whole_at params (s.front ++ (words ++ 10 ∷ tail))) refl h;
+      stuck = λ words thereafter tail none same other h. stuck words thereafter tail none same other (whole_at params (s.front ++ (words ++ 10 ∷ tail))) refl h;
     }
   where
-    stuck : (words behind tail : List ℕ) → line_feeds words ≡ 0 → s.within ++ s.at ≡ words ++ 10 ∷ behind → (other : Cert) (r : Result (Cert × List ℕ) ℕ) → whole_at params (s.front ++ (words ++ 10 ∷ tail)) ≡ r → (r >>= λ c. ended c.1 c.0) ≡ Ok other → ⊥
-    stuck words behind tail none same other (Ok c) is h = s.stuck words behind tail none same c is
-    stuck words behind tail none same other (Err m) is h = absurd cc
+    stuck : (words thereafter tail : List ℕ) → line_feeds words ≡ 0 → s.within ++ s.at ≡ words ++ 10 ∷ thereafter → (other : Cert) (r : Result (Cert × List ℕ) ℕ) → whole_at params (s.front ++ (words ++ 10 ∷ tail)) ≡ r → (r >>= λ c. ended c.1 c.0) ≡ Ok other → ⊥
+    stuck words thereafter tail none same other (Ok c) is h = s.stuck words thereafter tail none same c is
+    stuck words thereafter tail none same other (Err m) is h = absurd cc
 
 never_ended : (rest : List ℕ) (b : ℕ) (more : List ℕ) (cert other : Cert) → rest ≡ b ∷ more → ended rest cert ≡ Ok other → ⊥
 never_ended [] b more cert other e h = absurd cc
 never_ended (x ∷ rest) b more cert other e h = absurd cc
 
-breaks_behind : (params : Params) (bytes : List ℕ) (left : ℕ) (cert : Cert) (rest : List ℕ) → day_start params < 1440 → Passes (whole_at params) Any bytes cert rest → ended rest cert ≡ Err left → Breaks params bytes left
+breaks_after : (params : Params) (bytes : List ℕ) (left : ℕ) (cert : Cert) (rest : List ℕ) → day_start params < 1440 → Passes (whole_at params) Any bytes cert rest → ended rest cert ≡ Err left → Breaks params bytes left
 unfolding cert_at
-breaks_behind params bytes left cert [] low a e = absurd cc
-breaks_behind params bytes left cert (b ∷ rest) low a e =
+breaks_after params bytes left cert [] low a e = absurd cc
+breaks_after params bytes left cert (b ∷ rest) low a e =
     let is = text_of params a.took cert low (a.again []) in
     record {
       count = a.count;
@@ -165,7 +165,7 @@ breaks_behind params bytes left cert (b ∷ rest) low a e =
       rest = [];
       form = is.0;
       text = subst (λ (z : List ℕ). IsCertText params cert z) (sym (append-nil a.took)) is.1;
-      stuck = λ words behind tail none same other h. stuck words tail other h;
+      stuck = λ words thereafter tail none same other h. stuck words tail other h;
     }
   where
     not_done : (words tail : List ℕ) (other : Cert) → ended (words ++ 10 ∷ tail) cert ≡ Ok other → ⊥
@@ -183,11 +183,11 @@ breaks params bytes left low e = go (bind_err (whole_at params bytes) (λ c. end
   where
     go : (whole_at params bytes ≡ Err left) ⊎ ((c : Cert × List ℕ) × (whole_at params bytes ≡ Ok c) × (ended c.1 c.0 ≡ Err left)) → Breaks params bytes left
     go (inl h) = stops_whole params bytes left low ((whole_reads params low).stops bytes left h)
-    go (inr t) = breaks_behind params bytes left t.0.0 t.0.1 low ((whole_reads params low).passes bytes t.0 t.1) t.2
+    go (inr t) = breaks_after params bytes left t.0.0 t.0.1 low ((whole_reads params low).passes bytes t.0 t.1) t.2
 
--- the line at which reading stops is the one behind those lines
-line_behind : (params : Params) (bytes : List ℕ) (left : ℕ) (b : Breaks params bytes left) → line_at bytes left ≡ 1 + b.count
-line_behind params bytes left b =
+-- the line at which reading stops is the one after those lines
+line_after : (params : Params) (bytes : List ℕ) (left : ℕ) (b : Breaks params bytes left) → line_at bytes left ≡ 1 + b.count
+line_after params bytes left b =
     let before = b.front ++ b.within in
     let whole : bytes ≡ before ++ b.at = b.parts ∙ sym (append_assoc b.front b.within b.at) in
     let long : length bytes ≡ length before + length b.at = ap (λ (z : List ℕ). length z) whole ∙ length-append before b.at in
@@ -202,7 +202,7 @@ pub bad_line : (params : Params) (bytes : List ℕ) (left : ℕ) → day_start p
 bad_line params bytes left low e =
     let b = breaks params bytes left low e in
     let next : 1 + b.count ≡ suc b.count = omega arith in
-    subst (λ n. IsBadLine params bytes n) (sym (line_behind params bytes left b ∙ next)) (record {
+    subst (λ n. IsBadLine params bytes n) (sym (line_after params bytes left b ∙ next)) (record {
       some = omega arith;
       before = λ n lt. begun b n (omega (arith, lt));
       bad = bad b;
@@ -213,7 +213,7 @@ bad_line params bytes left low e =
         let f = fewer_lines n b.count b.front le b.are_lines in
         record {
           lines = f.front;
-          behind = f.back ++ (b.within ++ b.at);
+          thereafter = f.back ++ (b.within ++ b.at);
           are_lines = f.are_lines;
           parts = b.parts ∙ ap (λ (z : List ℕ). z ++ (b.within ++ b.at)) f.parts ∙ append_assoc f.front f.back (b.within ++ b.at);
           cert = b.cert;
@@ -227,9 +227,9 @@ bad_line params bytes left low e =
         let l = last_line b.count begins.lines begins.are_lines in
         let w = l.is_line.words in
         let line_then : (z : List ℕ) → l.line ++ z ≡ w ++ 10 ∷ z = λ z. ap (λ (t : List ℕ). t ++ z) l.is_line.ended ∙ append_assoc w (codes "\n") z in
-        let there : l.front ++ (l.line ++ begins.behind) ≡ b.front ++ (b.within ++ b.at) = sym (append_assoc l.front l.line begins.behind) ∙ ap (λ (t : List ℕ). t ++ begins.behind) (sym l.parts) ∙ sym begins.parts ∙ b.parts in
-        let same = same_lines b.count l.front b.front (l.line ++ begins.behind) (b.within ++ b.at) l.are_lines b.are_lines there in
+        let there : l.front ++ (l.line ++ begins.thereafter) ≡ b.front ++ (b.within ++ b.at) = sym (append_assoc l.front l.line begins.thereafter) ∙ ap (λ (t : List ℕ). t ++ begins.thereafter) (sym l.parts) ∙ sym begins.parts ∙ b.parts in
+        let same = same_lines b.count l.front b.front (l.line ++ begins.thereafter) (b.within ++ b.at) l.are_lines b.are_lines there in
         let here : begins.lines ++ begins.rest ≡ b.front ++ (w ++ 10 ∷ begins.rest) =
         ap (λ (t : List ℕ). t ++ begins.rest) l.parts ∙ append_assoc l.front l.line begins.rest ∙ ap (λ (t : List ℕ). t ++ (l.line ++ begins.rest)) same.0 ∙ ap (λ (t : List ℕ). b.front ++ t) (line_then begins.rest) in
         let read = cert_again params (begins.lines ++ begins.rest) begins.cert low begins.form begins.text in
-        b.stuck w begins.behind begins.rest l.is_line.one (sym same.1 ∙ line_then begins.behind) begins.cert (ap (cert_at params) (sym here) ∙ read)
+        b.stuck w begins.thereafter begins.rest l.is_line.one (sym same.1 ∙ line_then begins.thereafter) begins.cert (ap (cert_at params) (sym here) ∙ read)

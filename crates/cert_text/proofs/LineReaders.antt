@@ -19,12 +19,12 @@ use Rattle.cert_text.specs.declared.marks.MarkPlace.{MarkPlace}
 use Rattle.cert_text.specs.BadLine.{line_feeds, IsLine}
 use Rattle.cert_text.specs.Form.{IsLabelForm}
 use Rattle.cert_text.specs.Spelling.{letter, number_line, kind_line, number_or_dash, target_line, run_line, mark_word, state_number, label_line, layer_head}
-use Rattle.cert_text.specs.Reading.{◌>>=◌, strip_at, word_at, number_at, dash_or_number_at, number_line_at, letter_at, may_follow, run_at, time_at, mark_word_at, mark_of, marked_is, has_room, mark_at, behind_mark, target_at, or_infeasible, kind_at, numbers_at, label_at, layer_head_at}
-use Rattle.cert_text.specs.ItemLaws.{number_line_takes, number_line_again}
-use Rattle.cert_text.specs.RunLaws.{follows, GoodRun, run_takes, run_again}
-use Rattle.cert_text.specs.MarkTextLaws.{GoodMark, mark_takes, mark_again}
-use Rattle.cert_text.specs.LayerLaws.{GoodLabel, label_takes, label_again, layer_head_takes, layer_head_again}
-use Rattle.cert_text.specs.CertTextLaws.{target_takes, target_again, kind_takes, kind_again}
+use Rattle.cert_text.specs.Reading.{◌>>=◌, strip_at, word_at, number_at, dash_or_number_at, number_line_at, letter_at, may_follow, run_at, time_at, mark_word_at, mark_of, marked_is, has_room, mark_at, after_mark, target_at, or_infeasible, kind_at, numbers_at, label_at, layer_head_at}
+use Rattle.cert_text.specs.Laws.ItemLaws.{number_line_takes, number_line_again}
+use Rattle.cert_text.specs.Laws.RunLaws.{follows, GoodRun, run_takes, run_again}
+use Rattle.cert_text.specs.Laws.MarkTextLaws.{GoodMark, mark_takes, mark_again}
+use Rattle.cert_text.specs.Laws.LayerLaws.{GoodLabel, label_takes, label_again, layer_head_takes, layer_head_again}
+use Rattle.cert_text.specs.Laws.CertTextLaws.{target_takes, target_again, kind_takes, kind_again}
 use Rattle.cert_text.proofs.Lines.{none_append}
 use Rattle.cert_text.proofs.Readers.{bind_err, not_both, word_left, Reads, StopsWithin, stops_here, line_reads}
 use Rattle.cert_text.proofs.Within.{stays_then, stays_word, stays_end, test_left, plain_decimal, number_within, plain_dash, dash_within, plain_numbers, numbers_within, plain_letter, letter_within, plain_time, time_within, mark_word_within}
@@ -208,12 +208,12 @@ is_mark_line params place marked text good =
 abbrev pub HasRoom : ℕ → MarkPlace → Type 0
 HasRoom n place = (place.left ≡ n) × (place.least + n ≤ MINUTES_OF_CENTURY)
 
-pub mark_reads : (params : Params) → day_start params < 1440 → (n : ℕ) (place : MarkPlace) → HasRoom (suc n) place → Reads (mark_at params place) (λ marked. HasRoom n (behind_mark place marked))
+pub mark_reads : (params : Params) → day_start params < 1440 → (n : ℕ) (place : MarkPlace) → HasRoom (suc n) place → Reads (mark_at params place) (λ marked. HasRoom n (after_mark place marked))
 mark_reads params low n place room =
     let time = minute_text place.least (omega (arith, room.1)) in
     let mark : Mark = SplitRest place.least in
     let first : Marked = record { mark = mark; at = place.least } in
-    line_reads (mark_at params place) (λ marked. HasRoom n (behind_mark place marked)) (GoodMark params place) (record {
+    line_reads (mark_at params place) (λ marked. HasRoom n (after_mark place marked)) (GoodMark params place) (record {
       takes = λ bytes x e. mark_takes params low place bytes x.0 x.1 e;
       again = λ marked text rest is. mark_again params low place marked text rest is;
       is_line = is_mark_line params place;

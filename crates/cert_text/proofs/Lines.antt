@@ -1,4 +1,4 @@
--- Lines, one behind the other.
+-- Lines, one after the other.
 use Rattle.std.proofs.Common.{◌≡◌, ℕ, zero, suc, ◌+◌, ◌≤◌, cond, eqb, List, [], ◌∷◌, ◌++◌, codes, refl, sym, ap, subst, ◌∙◌, append_assoc, arith}
 use Rattle.std.proofs.lemmas.List.{append-nil}
 use Rattle.std.proofs.lemmas.List.Sums.{sum_by-cons, sum_by-append}
@@ -77,7 +77,7 @@ same_lines (suc n) a b u v h k e =
     let later = same_lines n h.1 k.1 u v h.4 k.4 first.1 in
     (h.2 ∙ ap (λ (t : List ℕ). t ++ h.1) first.0 ∙ ap (λ (t : List ℕ). k.0 ++ t) later.0 ∙ sym k.2, later.1)
 
--- some of the first lines, and what stands behind them
+-- some of the first lines, and what stands after them
 pub record Split (k : ℕ) (text : List ℕ) : Type 0 where
   pub front : List ℕ
   pub back : List ℕ

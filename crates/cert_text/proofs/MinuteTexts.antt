@@ -8,7 +8,7 @@ use Rattle.civil_minutes.specs.declared.century.TheConstants.{MINUTES_OF_CENTURY
 use Rattle.civil_minutes.specs.Time.{days_after_2000, time_text, IsTimeText}
 use Rattle.civil_minutes.proofs.CenturyDates.{day_count-2000, day_count-2100, first_epoch_day}
 
--- a date of these years, so many days behind the first
+-- a date of these years, so many days after the first
 record HasDate (k : ℕ) : Type 0 where
   year : ℕ
   month : ℕ

@@ -1,4 +1,4 @@
--- Reading the numbers of a state one behind the other, as a loop does.
+-- Reading the numbers of a state one after the other, as a loop does.
 use Rattle.std.proofs.Common.{◌≡◌, ℕ, suc, ◌-◌, ◌+◌, ◌≤◌, ◌<◌, List, [], ◌∷◌, ◌++◌, codes, None, Some, Result, Ok, Err, refl, sym, ap, ◌∙◌, arith}
 use Rattle.std.proofs.lemmas.List.{append-nil}
 use Rattle.cert_text.specs.declared.fault.Stop.{Stop}
@@ -15,7 +15,7 @@ number_more front count i bytes rest n after total lt space h so_far =
     let one : with_front front (numbers_at (count - i) bytes) ≡ with_front (front ++ n ∷ []) (numbers_at (count - (i + 1)) after) = rw (k, space, h) (regroup front n (numbers_at (count - (i + 1)) after)) in
     sym one ∙ so_far
 
--- what stands behind the space is no number
+-- what stands after the space is no number
 pub number_ends : (e : Stop) (front : List ℕ) (count i : ℕ) (bytes rest : List ℕ) (total : Result (List ℕ × List ℕ) ℕ) → i < count → strip_at (codes " ") bytes ≡ Some rest → Fails e (number_at rest)
     → with_front front (numbers_at (count - i) bytes) ≡ total → Fails e total
 unfolding numbers_at

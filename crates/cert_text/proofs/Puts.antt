@@ -52,6 +52,6 @@ claim_few params Infeasible target schedule marks h = record {
   forms = rw h.2 tt;
 }
 
--- five pieces, each put behind what stands there
+-- five pieces, each put after what stands there
 pub five_pieces : (o a b c d e s1 s2 s3 s4 s5 : List ℕ) → s1 ≡ o ++ a → s2 ≡ s1 ++ b → s3 ≡ s2 ++ c → s4 ≡ s3 ++ d → s5 ≡ s4 ++ e → s5 ≡ o ++ (a ++ (b ++ (c ++ (d ++ e))))
 five_pieces o a b c d e s1 s2 s3 s4 s5 h1 h2 h3 h4 h5 = h5 ∙ rw (h4, h3, h2, h1) (simp append_assoc)

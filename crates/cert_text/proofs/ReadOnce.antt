@@ -8,7 +8,7 @@ use Rattle.cert_text.specs.declared.cert.Cert.{Cert}
 use Rattle.cert_text.specs.Form.{IsCertForm}
 use Rattle.cert_text.specs.Spelling.{IsCertText}
 use Rattle.cert_text.specs.Reading.{cert_at}
-use Rattle.cert_text.specs.CertTextLaws.{cert_again}
+use Rattle.cert_text.specs.Laws.CertTextLaws.{cert_again}
 
 -- a day of a tour begins before midnight
 pub start_low : (params : Params) → IsParams params → day_start params < 1440

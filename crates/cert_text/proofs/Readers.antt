@@ -2,7 +2,7 @@
 use Rattle.std.proofs.Common.{◌≡◌, ℕ, zero, suc, ◌+◌, ◌⊎◌, inl, inr, List, [], ◌∷◌, ◌++◌, length, codes, Option, None, Some, Result, Ok, Err, refl, sym, ap, subst, ◌∙◌, append_assoc}
 use Rattle.cert_text.specs.BadLine.{line_feeds, IsLine, AreLines}
 use Rattle.cert_text.specs.Reading.{◌>>=◌, or_left, strip_at, repeat_at, word_at}
-use Rattle.cert_text.specs.WordLaws.{bind_ok, bind_is, ok_is, then_takes, word_takes, word_again}
+use Rattle.cert_text.specs.Laws.WordLaws.{bind_ok, bind_is, ok_is, then_takes, word_takes, word_again}
 use Rattle.cert_text.proofs.Lines.{a_line, lines_append, same_words}
 
 -- where two readers stop
@@ -38,7 +38,7 @@ pub record Fills {X : Type 0} (p : List ℕ → Result (X × List ℕ) ℕ) (Goo
   pub good : Good value
   pub filled : (tail : List ℕ) → p (front ++ (fill ++ tail)) ≡ Ok (value, tail)
 
--- Where a reader stops: within the line behind some lines. These may go on; with that line none does.
+-- Where a reader stops: within the line after some lines. These may go on; with that line none does.
 pub record Stops {X : Type 0} (p : List ℕ → Result (X × List ℕ) ℕ) (Good : X → Type 0) (bytes : List ℕ) (left : ℕ) : Type 0 where
   pub count : ℕ
   pub front : List ℕ
@@ -49,7 +49,7 @@ pub record Stops {X : Type 0} (p : List ℕ → Result (X × List ℕ) ℕ) (Goo
   pub one : line_feeds within ≡ 0
   pub left_is : left ≡ length at
   pub fills : Fills p Good front
-  pub stuck : (words behind tail : List ℕ) → line_feeds words ≡ 0 → within ++ at ≡ words ++ 10 ∷ behind → (y : X × List ℕ) → p (front ++ (words ++ 10 ∷ tail)) ≡ Ok y → ⊥
+  pub stuck : (words thereafter tail : List ℕ) → line_feeds words ≡ 0 → within ++ at ≡ words ++ 10 ∷ thereafter → (y : X × List ℕ) → p (front ++ (words ++ 10 ∷ tail)) ≡ Ok y → ⊥
 
 -- a reader of whole lines
 pub record Reads {X : Type 0} (p : List ℕ → Result (X × List ℕ) ℕ) (Good : X → Type 0) : Type 0 where
@@ -91,7 +91,7 @@ nothing_reads {X} x Good good = record {
   stops = λ bytes left e. absurd (not_both (x, bytes) left e);
 }
 
--- ---- one behind the other
+-- ---- one after the other
 
 abbrev pub and_then : {X Y : Type 0} → (List ℕ → Result (X × List ℕ) ℕ) → (X → List ℕ → Result (Y × List ℕ) ℕ) → List ℕ → Result (Y × List ℕ) ℕ
 and_then p f bytes = p bytes >>= λ x. f x.0 x.1
@@ -135,9 +135,9 @@ stops_first p Good f Next next bytes left s = record {
   one = s.one;
   left_is = s.left_is;
   fills = then_fills p Good f Next s.front s.fills (next s.fills.value s.fills.good);
-  stuck = λ words behind tail none same y h.
+  stuck = λ words thereafter tail none same y h.
       let x = bind_ok (p (s.front ++ (words ++ 10 ∷ tail))) (λ x. f x.0 x.1) y h in
-      s.stuck words behind tail none same x.0 x.1;
+      s.stuck words thereafter tail none same x.0 x.1;
 }
 
 stops_later : {X Y : Type 0} (p : List ℕ → Result (X × List ℕ) ℕ) (Good : X → Type 0) (f : X → List ℕ → Result (Y × List ℕ) ℕ) (Next : Y → Type 0) (bytes : List ℕ) (x : X) (rest : List ℕ) (left : ℕ) → Passes p Good bytes x rest → Stops (f x) Next rest left → Stops (and_then p f) Next bytes left
@@ -158,10 +158,10 @@ stops_later p Good f Next bytes x rest left a s = record {
         ap (and_then p f) (append_assoc a.took s.front (s.fills.fill ++ tail))
         ∙ bind_is (p (a.took ++ (s.front ++ (s.fills.fill ++ tail)))) (λ x. f x.0 x.1) (x, s.front ++ (s.fills.fill ++ tail)) (Ok (s.fills.value, tail)) (a.again (s.front ++ (s.fills.fill ++ tail))) (s.fills.filled tail);
   };
-  stuck = λ words behind tail none same y h.
+  stuck = λ words thereafter tail none same y h.
       let later = s.front ++ (words ++ 10 ∷ tail) in
       let here : and_then p f (a.took ++ later) ≡ f x later = bind_is (p (a.took ++ later)) (λ x. f x.0 x.1) (x, later) (f x later) (a.again later) refl in
-      s.stuck words behind tail none same y (sym here ∙ ap (and_then p f) (sym (append_assoc a.took s.front (words ++ 10 ∷ tail))) ∙ h);
+      s.stuck words thereafter tail none same y (sym here ∙ ap (and_then p f) (sym (append_assoc a.took s.front (words ++ 10 ∷ tail))) ∙ h);
 }
 
 pub then_reads : {X Y : Type 0} (p : List ℕ → Result (X × List ℕ) ℕ) (Good : X → Type 0) (f : X → List ℕ → Result (Y × List ℕ) ℕ) (Next : Y → Type 0) → Reads p Good → ((x : X) → Good x → Reads (f x) Next) → Reads (and_then p f) Next
@@ -177,7 +177,7 @@ then_reads {X} {Y} p Good f Next reads next = record {
         let a = reads.passes bytes t.0 t.1 in
         stops_later p Good f Next bytes t.0.0 t.0.1 left a ((next t.0.0 a.good).stops t.0.1 left t.2)
 
--- ---- so many, one behind the other
+-- ---- so many, one after the other
 
 pub repeat_reads : {S A B : Type 0} (view : A → B) (step : S → List ℕ → Result (A × List ℕ) ℕ) (next : S → A → S) (Inv : ℕ → S → Type 0) → ((n : ℕ) (s : S) → Inv (suc n) s → Reads (step s) (λ a. Inv n (next s a)))
     → (n : ℕ) (s : S) → Inv n s → Reads (repeat_at view step next n s) (λ bs. Unit {0})
@@ -231,21 +231,21 @@ line_reads {X} p Good Spells r = record {
         one = s.one;
         left_is = s.left_is;
         fills = record { fill = r.line; value = r.example; good = r.good r.example r.line r.spelled; filled = λ tail. r.again r.example r.line tail r.spelled };
-        stuck = λ words behind tail none same y h. no_line bytes left e words behind tail none (s.parts ∙ same) y h;
+        stuck = λ words thereafter tail none same y h. no_line bytes left e words thereafter tail none (s.parts ∙ same) y h;
       };
 }
   where
-    no_line : (bytes : List ℕ) (left : ℕ) → p bytes ≡ Err left → (words behind tail : List ℕ) → line_feeds words ≡ 0 → bytes ≡ words ++ 10 ∷ behind → (y : X × List ℕ) → p (words ++ 10 ∷ tail) ≡ Ok y → ⊥
-    no_line bytes left e words behind tail none parts y h =
+    no_line : (bytes : List ℕ) (left : ℕ) → p bytes ≡ Err left → (words thereafter tail : List ℕ) → line_feeds words ≡ 0 → bytes ≡ words ++ 10 ∷ thereafter → (y : X × List ℕ) → p (words ++ 10 ∷ tail) ≡ Ok y → ⊥
+    no_line bytes left e words thereafter tail none parts y h =
         let t = r.takes (words ++ 10 ∷ tail) y h in
         let l = r.is_line y.0 t.0 t.2 in
         let split : words ++ 10 ∷ tail ≡ l.words ++ 10 ∷ y.1 = t.1 ∙ ap (λ (z : List ℕ). z ++ y.1) l.ended ∙ append_assoc l.words (codes "\n") y.1 in
         let same = same_words words l.words tail y.1 none l.one split in
-        let whole : bytes ≡ t.0 ++ behind = parts ∙ ap (λ (z : List ℕ). z ++ 10 ∷ behind) same.0 ∙ sym (append_assoc l.words (codes "\n") behind) ∙ ap (λ (z : List ℕ). z ++ behind) (sym l.ended) in
-        let reads : p bytes ≡ Ok (y.0, behind) = ap p whole ∙ r.again y.0 t.0 behind t.2 in
-        not_both (y.0, behind) left (sym reads ∙ e)
+        let whole : bytes ≡ t.0 ++ thereafter = parts ∙ ap (λ (z : List ℕ). z ++ 10 ∷ thereafter) same.0 ∙ sym (append_assoc l.words (codes "\n") thereafter) ∙ ap (λ (z : List ℕ). z ++ thereafter) (sym l.ended) in
+        let reads : p bytes ≡ Ok (y.0, thereafter) = ap p whole ∙ r.again y.0 t.0 thereafter t.2 in
+        not_both (y.0, thereafter) left (sym reads ∙ e)
 
--- a line of words, and what is read behind it
+-- a line of words, and what is read after it
 pub word_reads : {Y : Type 0} (word : List ℕ) → IsLine word → (f : List ℕ → Result (Y × List ℕ) ℕ) (Next : Y → Type 0) → Reads f Next → Reads (λ bytes. word_at word bytes >>= f) Next
 word_reads {Y} word line f Next next =
     let p : List ℕ → Result (Unit {0} × List ℕ) ℕ = λ bytes. word_at word bytes >>= λ rest. Ok (tt, rest) in

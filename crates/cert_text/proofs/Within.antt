@@ -14,11 +14,11 @@ use Rattle.duty_core.specs.declared.activity.Activity.TheVariants.{Drive, Serve,
 use Rattle.rule_core.specs.declared.numbers.TheConstants.{NUMBER_LIMIT}
 use Rattle.cert_text.specs.BadLine.{line_feeds}
 use Rattle.cert_text.specs.Spelling.{letter, number_or_dash, state_number}
-use Rattle.cert_text.specs.Reading.{◌>>=◌, strip_at, word_at, digits_at, number_at, dash_or_number_at, act_of, letter_is, letter_at, time_is, time_at, or_defer, mark_word_at, behind_space, numbers_at}
-use Rattle.cert_text.specs.WordLaws.{strip_takes, word_takes, number_takes}
-use Rattle.cert_text.specs.RunLaws.{letter_takes}
-use Rattle.cert_text.specs.MarkTextLaws.{time_takes, word_of, mark_word_takes}
-use Rattle.cert_text.specs.LayerLaws.{dash_takes, numbers_take}
+use Rattle.cert_text.specs.Reading.{◌>>=◌, strip_at, word_at, digits_at, number_at, dash_or_number_at, act_of, letter_is, letter_at, time_is, time_at, or_defer, mark_word_at, after_space, numbers_at}
+use Rattle.cert_text.specs.Laws.WordLaws.{strip_takes, word_takes, number_takes}
+use Rattle.cert_text.specs.Laws.RunLaws.{letter_takes}
+use Rattle.cert_text.specs.Laws.MarkTextLaws.{time_takes, word_of, mark_word_takes}
+use Rattle.cert_text.specs.Laws.LayerLaws.{dash_takes, numbers_take}
 use Rattle.cert_text.proofs.Lines.{none_append}
 use Rattle.cert_text.proofs.Readers.{bind_err, not_both, word_left, StopsWithin, stops_here}
 
@@ -56,7 +56,7 @@ stays_word base word plain f later front rest parts none left e = go (bind_err (
     go (inl h) = further base front rest left parts none (stops_here rest left (word_left word rest left h))
     go (inr t) = later (front ++ word) t.0 (parts ∙ ap (λ (z : List ℕ). front ++ z) (word_takes word rest t.0 t.1) ∙ sym (append_assoc front word t.0)) (none_append front word none plain) left t.2
 
--- the end of the line; what is asked behind it fails for the whole line
+-- the end of the line; what is asked after it fails for the whole line
 pub stays_end : {B : Type 0} (base : List ℕ) (g : List ℕ → Result B ℕ) → ((rest : List ℕ) (left : ℕ) → g rest ≡ Err left → left ≡ length base) → Stays base (λ bytes. word_at (codes "\n") bytes >>= g)
 stays_end base g whole front rest parts none left e = go (bind_err (word_at (codes "\n") rest) g left e)
   where
@@ -136,7 +136,7 @@ numbers_stay base (suc most) front rest parts none left e = go (numbers_stay bas
         last (inl h) = later front rest parts none left h
         last (inr t) = absurd (not_both (n ∷ t.0.0, t.0.1) left t.2)
 
-    go : Stays base (numbers_at most) → (o : Option (List ℕ)) → strip_at (codes " ") rest ≡ o → behind_space rest o (λ rest. number_at rest >>= λ n. numbers_at most n.1 >>= λ others. Ok (n.0 ∷ others.0, others.1)) ≡ Err left → StopsWithin base left
+    go : Stays base (numbers_at most) → (o : Option (List ℕ)) → strip_at (codes " ") rest ≡ o → after_space rest o (λ rest. number_at rest >>= λ n. numbers_at most n.1 >>= λ others. Ok (n.0 ∷ others.0, others.1)) ≡ Err left → StopsWithin base left
     go later None is e = absurd (not_both ([], rest) left e)
     go later (Some digits) is e =
         stays_then base number_at number_within (λ n bytes. numbers_at most bytes >>= λ others. Ok (n ∷ others.0, others.1)) (λ n. end n later) (front ++ codes " ") digits

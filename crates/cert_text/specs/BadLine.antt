@@ -12,13 +12,13 @@ use Rattle.cert_text.specs.Spelling.{IsCertText}
 abbrev pub line_feeds : List ℕ → ℕ
 line_feeds bytes = count_by (λ b. b == 10) bytes
 
--- a line: bytes without an LF, and an LF behind them
+-- a line: bytes without an LF, and an LF after them
 pub record IsLine (line : List ℕ) : Type 0 where
   pub words : List ℕ
   pub one : line_feeds words ≡ 0
   pub ended : line ≡ words ++ codes "\n"
 
--- so many lines, one behind the other
+-- so many lines, one after the other
 abbrev pub AreLines : ℕ → List ℕ → Type 0
 AreLines zero text = text ≡ []
 AreLines (suc n) text = (line : List ℕ) × (rest : List ℕ) × (text ≡ line ++ rest) × IsLine line × AreLines n rest
@@ -26,9 +26,9 @@ AreLines (suc n) text = (line : List ℕ) × (rest : List ℕ) × (text ≡ line
 -- The text of some certificate begins with the first so many lines of the bytes. A last line without its LF is none of them.
 pub record BeginsCert (params : Params) (bytes : List ℕ) (n : ℕ) : Type 0 where
   pub lines : List ℕ
-  pub behind : List ℕ
+  pub thereafter : List ℕ
   pub are_lines : AreLines n lines
-  pub parts : bytes ≡ lines ++ behind
+  pub parts : bytes ≡ lines ++ thereafter
   pub cert : Cert
   pub rest : List ℕ
   pub form : IsCertForm params cert

@@ -2,6 +2,7 @@
 use Rattle.std.specs.Prelude.{◌≡◌, ℕ, ◌+◌, List, [], ◌∷◌, Option, None, Some, flat_map, replicate}
 use Rattle.duty_core.specs.declared.activity.Activity.{Activity}
 use Rattle.duty_core.specs.declared.mark.Mark.{Mark}
+use Rattle.rule_core.specs.Machine.{Machine}
 use Rattle.tour_model.specs.declared.label.Label.{Label}
 use Rattle.tour_model.specs.declared.tour.Tour.{Tour}
 use Rattle.tour_model.specs.Schedule.{duration, IsSolutionWith}
@@ -10,8 +11,7 @@ use Rattle.cert_text.specs.declared.cert.CertKind.{CertKind}
 use Rattle.cert_text.specs.declared.cert.CertKind.TheVariants.{Shortest, Infeasible}
 use Rattle.cert_text.specs.declared.cert.CertLabel.{CertLabel}
 use Rattle.cert_text.specs.declared.cert.StepRun.{StepRun}
-use Rattle.cert_text.specs.Problem.{Problem}
-use Rattle.cert_text.specs.Planning.{minute_of, state_at}
+use Rattle.cert_text.specs.Planning.{minute_of, state_at, problem_of, IsLogState}
 use Rattle.cert_text.specs.Cover.{IsCoverList}
 
 -- the activities of run lines, one for each step
@@ -40,9 +40,9 @@ abbrev pub IsClaim : Tour → List Activity → CertKind → Option ℕ → List
 IsClaim tour log Shortest target schedule marks = IsSolutionWith tour log schedule marks × (target ≡ Some (duration schedule))
 IsClaim tour log Infeasible target schedule marks = (target ≡ None) × (schedule ≡ []) × (marks ≡ [])
 
--- A valid certificate of a tour behind a log: it holds what its kind claims, and its layers stand for a cover list for its target.
-pub record IsValidCert {S : Type 0} (tour : Tour) (log : List Activity) (problem : Problem S) (is_state : S → ℕ → Type 0) (starts : S → Type 0) (state_of : List ℕ → ℕ → Option S) (cert : Cert) : Type 0 where
+-- A valid certificate of a tour after a log, by a book: it holds what its kind claims, and its layers stand for a cover list for its target.
+pub record IsValidCert {S : Type 0} (tour : Tour) (log : List Activity) (m : Machine S) (cert : Cert) : Type 0 where
   pub claim : IsClaim tour log cert.kind cert.target (acts_of_runs cert.schedule) cert.marks
   pub layers : List (List (Label S))
-  pub listed : AreLayersOf state_of tour 0 cert.layers layers
-  pub covers : IsCoverList problem (state_at tour is_state) starts cert.target layers
+  pub listed : AreLayersOf m.state_of tour 0 cert.layers layers
+  pub covers : IsCoverList (problem_of tour m) (state_at tour m) (IsLogState tour log m) cert.target layers

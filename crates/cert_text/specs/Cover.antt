@@ -31,14 +31,14 @@ taken step l = step - unwrap_or l.depart 0
 -- A departed label cannot end within less than the target. Where there is no target, no label is such.
 pub record IsTooLong {S : Type 0} (problem : Problem S) (target : Option ℕ) (step : ℕ) (l : Label S) : Type 0 where
   pub depart : ℕ
-  pub eta : ℕ
+  pub bound : ℕ
   pub departed : l.depart ≡ Some depart
-  pub ends : problem.eta step l.progress ≡ Some eta
-  pub long : IsAtLeast target (eta - depart)
+  pub ends : problem.bound step l ≡ Some bound
+  pub long : IsAtLeast target (bound - depart)
 
--- A label need not be listed: its windows can no longer be met, or it cannot beat the target.
-abbrev pub IsLetOff : {S : Type 0} → Problem S → Option ℕ → ℕ → Label S → Type 0
-IsLetOff problem target step l = (problem.eta step l.progress ≡ None) ⊎ IsTooLong problem target step l
+-- A label need not be listed: it cannot be finished, or it cannot beat the target.
+abbrev pub IsPruned : {S : Type 0} → Problem S → Option ℕ → ℕ → Label S → Type 0
+IsPruned problem target step l = (problem.bound step l ≡ None) ⊎ IsTooLong problem target step l
 
 -- A label of this step: its state is one of the step, it has done no more than there is to do, and it has departed exactly where it has done something, and then before the step.
 pub record IsLabelAt {S : Type 0} (is_state : S → ℕ → Type 0) (goal step : ℕ) (l : Label S) : Type 0 where
@@ -47,11 +47,11 @@ pub record IsLabelAt {S : Type 0} (is_state : S → ℕ → Type 0) (goal step :
   pub still : l.progress ≡ 0 → l.depart ≡ None
   pub departed : 0 < l.progress → (depart : ℕ) × (l.depart ≡ Some depart) × (depart < step)
 
--- Each successor of the unfinished labels of one step is let off, or a better label is listed at the next.
+-- Each successor of the unfinished labels of one step is pruned, or a better label is listed at the next.
 abbrev pub IsAnsweredLayer : {S : Type 0} → Problem S → Option ℕ → ℕ → List (Label S) → List (Label S) → Type 0
 IsAnsweredLayer {S} problem target step layer next =
     (l : Label S) → IsOneOf layer l → l.progress < problem.goal → (g : Grown S) → IsOneOf (successors_of problem step l) g →
-    IsLetOff problem target (step + 1) g.label ⊎ IsCovered problem (step + 1) next g.label
+    IsPruned problem target (step + 1) g.label ⊎ IsCovered problem (step + 1) next g.label
 
 -- From such layers it follows that no solution takes less than the target, and where there is no target, that there is none.
 -- `is_state` tells which states there are at a step, and `starts` in which the driver may start: each is covered by a label of the first layer that has not departed and has done nothing.

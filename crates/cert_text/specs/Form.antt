@@ -19,7 +19,7 @@ pub record IsRunForm (before : Option Activity) (run : StepRun) : Type 0 where
   pub few : run.count < NUMBER_LIMIT
   pub other : before ≢ Some run.act
 
--- runs behind one of this activity, each of another activity than its neighbours
+-- runs after one of this activity, each of another activity than its neighbours
 abbrev pub AreRunForms : Option Activity → List StepRun → Type 0
 AreRunForms before [] = Unit {0}
 AreRunForms before (run ∷ more) = IsRunForm before run × AreRunForms (Some run.act) more

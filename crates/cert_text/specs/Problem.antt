@@ -7,14 +7,14 @@ use Rattle.tour_model.specs.Way.{progresses, done}
 use Rattle.tour_model.specs.declared.label.Label.{Label}
 use Rattle.cert_text.specs.declared.grown.Grown.{Grown}
 
--- A search problem. The first number of `may`, `eta`, and the number of `nexts` and `covers`, is a step.
+-- A search problem. The first number of `may` and `bound`, and the number of `nexts` and `covers`, is a step.
 pub record Problem (S : Type 0) : Type 0 where
   -- the progress of a finished label
   pub goal : ℕ
   -- whether the tour allows the activity at this step, after this progress
   pub may : ℕ → ℕ → Activity → Bool
-  -- the earliest end from this step, after this progress, with no rules
-  pub eta : ℕ → ℕ → Option ℕ
+  -- a step before which no continuation of a label of this step ends; where there is none, the label has no continuation
+  pub bound : ℕ → Label S → Option ℕ
   -- the states after this step of an activity
   pub nexts : S → ℕ → Activity → List (Next S)
   -- whether the first state may stand for the second
@@ -52,7 +52,7 @@ later (Some x) (Some y) = nat_le y x
 abbrev pub is_better : {S : Type 0} → Problem S → ℕ → Label S → Label S → Bool
 is_better problem step a b = (later a.depart b.depart && (a.progress == b.progress)) && problem.covers a.state b.state step
 
--- A label can still be finished, as far as the windows go.
-pub record HasEta {S : Type 0} (problem : Problem S) (step : ℕ) (l : Label S) : Type 0 where
-  pub eta : ℕ
-  pub is : problem.eta step l.progress ≡ Some eta
+-- A label can still be finished, as far as its bound tells.
+pub record HasBound {S : Type 0} (problem : Problem S) (step : ℕ) (l : Label S) : Type 0 where
+  pub bound : ℕ
+  pub is : problem.bound step l ≡ Some bound

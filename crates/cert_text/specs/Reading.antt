@@ -1,4 +1,4 @@
--- Reading the text of a certificate from left to right. Each part is a value and the bytes behind it; where it is none, the answer is the number of the bytes that are left there.
+-- Reading the text of a certificate from left to right. Each part is a value and the bytes after it; where it is none, the answer is the number of the bytes that are left there.
 use Rattle.std.specs.Prelude.{◌≡◌, ℕ, zero, suc, ◌+◌, ◌-◌, ◌*◌, ◌==◌, ◌&&◌, not, nat_le, nat_lt, if◌then◌else◌, Bool, true, false, List, [], ◌∷◌, length, take, drop, codes, Option, None, Some, Result, Ok, Err}
 use Rattle.std.specs.Char.{is_ascii_digit}
 use Rattle.std.specs.Str.{bytes_eq}
@@ -42,7 +42,7 @@ Gives view (Err e) read = Fails e read
 
 -- ---- words and numbers
 
--- what stands behind a word, where it stands at the front
+-- what stands after a word, where it stands at the front
 unfoldable pub strip_at : List ℕ → List ℕ → Option (List ℕ)
 strip_at word bytes = if bytes_eq (take (length word) bytes) word then Some (drop (length word) bytes) else None
 
@@ -50,7 +50,7 @@ abbrev pub or_left : {A : Type 0} → ℕ → Option A → Result A ℕ
 or_left left None = Err left
 or_left left (Some x) = Ok x
 
--- what stands behind a word
+-- what stands after a word
 abbrev pub word_at : List ℕ → List ℕ → Result (List ℕ) ℕ
 word_at word bytes = or_left (length bytes) (strip_at word bytes)
 
@@ -69,7 +69,7 @@ unfoldable pub dash_or_number_at : List ℕ → Result (Option ℕ × List ℕ) 
 dash_or_number_at [] = Err 0
 dash_or_number_at (b ∷ rest) = if b == 45 then Ok (None, rest) else (number_at (b ∷ rest) >>= λ n. Ok (Some n.0, n.1))
 
--- the number behind a word, to the end of the line
+-- the number after a word, to the end of the line
 unfoldable pub number_line_at : List ℕ → List ℕ → Result (ℕ × List ℕ) ℕ
 number_line_at word bytes = do
   a ← word_at word bytes
@@ -77,7 +77,7 @@ number_line_at word bytes = do
   b ← word_at (codes "\n") n.1
   Ok (n.0, b)
 
--- so many items as `view` sees them, one behind the other, where `next` tells what each leaves for the one behind it
+-- so many items as `view` sees them, one after the other, where `next` tells what each leaves for the one after it
 unfoldable pub repeat_at : {S A B : Type 0} → (A → B) → (S → List ℕ → Result (A × List ℕ) ℕ) → (S → A → S) → ℕ → S → List ℕ → Result (List B × List ℕ) ℕ
 repeat_at view step next zero s bytes = Ok ([], bytes)
 repeat_at view step next (suc n) s bytes = do
@@ -110,7 +110,7 @@ same_act Off Off = true
 same_act Berth Berth = true
 same_act _ _ = false
 
--- whether a run of this activity may stand behind one of the activity before
+-- whether a run of this activity may stand after one of the activity before
 abbrev pub may_follow : Option Activity → Activity → Bool
 may_follow None act = true
 may_follow (Some before) act = not (same_act before act)
@@ -124,8 +124,8 @@ run_at before bytes = do
   c ← word_at (codes "\n") act.1
   if nat_lt 0 n.0 && may_follow before act.0 then Ok (record { count = n.0; act = act.0 }, c) else Err (length bytes)
 
-abbrev pub behind_run : Option Activity → StepRun → Option Activity
-behind_run before run = Some run.act
+abbrev pub after_run : Option Activity → StepRun → Option Activity
+after_run before run = Some run.act
 
 -- ---- marks
 
@@ -154,7 +154,7 @@ abbrev pub marked_is : ℕ → List ℕ → ℕ → Option Mark → Result (Mark
 marked_is left rest at None = Err left
 marked_is left rest at (Some mark) = Ok (record { mark = mark; at = at }, rest)
 
--- whether a mark may stand at the minute, so that the marks behind it have room before the century ends
+-- whether a mark may stand at the minute, so that the marks after it have room before the century ends
 abbrev pub has_room : MarkPlace → ℕ → Bool
 has_room place at = nat_le place.least at && nat_le (at + place.left) MINUTES_OF_CENTURY
 
@@ -166,14 +166,14 @@ mark_at params place bytes = do
   b ← word_at (codes "\n") t.1
   if has_room place t.0 then marked_is (length bytes) b t.0 (mark_of params defers.0 t.0) else Err (length bytes)
 
-abbrev pub behind_mark : MarkPlace → Marked → MarkPlace
-behind_mark place marked = record { least = marked.at + 1; left = place.left - 1 }
+abbrev pub after_mark : MarkPlace → Marked → MarkPlace
+after_mark place marked = record { least = marked.at + 1; left = place.left - 1 }
 
 unfoldable pub marks_at : Params → ℕ → List ℕ → Result (List Mark × List ℕ) ℕ
-marks_at params n bytes = repeat_at (λ (m : Marked). m.mark) (mark_at params) behind_mark n (record { least = 0; left = n }) bytes
+marks_at params n bytes = repeat_at (λ (m : Marked). m.mark) (mark_at params) after_mark n (record { least = 0; left = n }) bytes
 
 unfoldable pub runs_at : ℕ → List ℕ → Result (List StepRun × List ℕ) ℕ
-runs_at n bytes = repeat_at (λ (r : StepRun). r) run_at behind_run n None bytes
+runs_at n bytes = repeat_at (λ (r : StepRun). r) run_at after_run n None bytes
 
 -- ---- what the certificate claims
 
@@ -218,15 +218,15 @@ claim_at params bytes = do
 
 -- ---- layers
 
--- what is read behind a space; nothing where no space stands at the front
-abbrev pub behind_space : List ℕ → Option (List ℕ) → (List ℕ → Result (List ℕ × List ℕ) ℕ) → Result (List ℕ × List ℕ) ℕ
-behind_space bytes None read = Ok ([], bytes)
-behind_space bytes (Some rest) read = read rest
+-- what is read after a space; nothing where no space stands at the front
+abbrev pub after_space : List ℕ → Option (List ℕ) → (List ℕ → Result (List ℕ × List ℕ) ℕ) → Result (List ℕ × List ℕ) ℕ
+after_space bytes None read = Ok ([], bytes)
+after_space bytes (Some rest) read = read rest
 
--- at most so many numbers, each behind a space
+-- at most so many numbers, each after a space
 unfoldable pub numbers_at : ℕ → List ℕ → Result (List ℕ × List ℕ) ℕ
 numbers_at zero bytes = Ok ([], bytes)
-numbers_at (suc most) bytes = behind_space bytes (strip_at (codes " ") bytes) (λ rest. number_at rest >>= λ n. numbers_at most n.1 >>= λ others. Ok (n.0 ∷ others.0, others.1))
+numbers_at (suc most) bytes = after_space bytes (strip_at (codes " ") bytes) (λ rest. number_at rest >>= λ n. numbers_at most n.1 >>= λ others. Ok (n.0 ∷ others.0, others.1))
 
 unfoldable pub label_at : List ℕ → Result (CertLabel × List ℕ) ℕ
 label_at bytes = do
@@ -266,7 +266,7 @@ abbrev pub ended : List ℕ → Cert → Result Cert ℕ
 ended [] cert = Ok cert
 ended (b ∷ rest) cert = Err (length (b ∷ rest))
 
--- a certificate, and the bytes behind its text
+-- a certificate, and the bytes after its text
 unfoldable pub whole_at : Params → List ℕ → Result (Cert × List ℕ) ℕ
 whole_at params bytes = do
   claim ← claim_at params bytes

@@ -1,4 +1,4 @@
--- The text of a certificate: its lines, each of words with one space between them, and an LF behind each.
+-- The text of a certificate: its lines, each of words with one space between them, and an LF after each.
 use Rattle.std.specs.Prelude.{◌≡◌, ℕ, ◌+◌, pos, List, [], ◌∷◌, ◌++◌, length, codes, Option, None, Some}
 use Rattle.std.specs.Fmt.{decimal}
 use Rattle.std.specs.List.{flat_map}
@@ -95,7 +95,7 @@ abbrev pub claim_lines : Cert → List ℕ
 claim_lines cert =
     codes "duty-cert 1\n" ++ (kind_line cert.kind ++ (target_line cert.target ++ (schedule_lines cert.schedule ++ number_line (codes "marks ") (length cert.marks))))
 
--- the text behind the marks
+-- the text after the marks
 abbrev pub cover_lines : List (List CertLabel) → List ℕ
 cover_lines layers = number_line (codes "layers ") (length layers) ++ (layers_lines 0 layers ++ codes "end\n")
 

@@ -8,7 +8,7 @@ use duty_core::NoMemory;
 #[derive(Clone, Copy, Debug, PartialEq, Eq)]
 pub enum CertFault {
     /// The bytes are the text of no certificate. `line` counts from 1: it is the first line that
-    /// does not fit, or where the text ends too early, the one behind its whole lines.
+    /// does not fit, or where the text ends too early, the one after its whole lines.
     Bad { line: u64 },
     /// There was no memory for the certificate.
     Memory,
@@ -19,7 +19,7 @@ pub enum CertFault {
 pub enum Stop {
     /// There was no memory for what was read.
     Memory,
-    /// What stands here does not fit. So many bytes were left, of this line and what is behind it.
+    /// What stands here does not fit. So many bytes were left, of this line and what is after it.
     Left(usize),
 }
 

@@ -2,12 +2,11 @@
 //! laws.
 ghost use Rattle.std.specs.Prelude.{◌≡◌, ℕ, ◌*◌, ◌≤◌, List, Option, None, Some, length};
 ghost use Rattle.duty_core.specs.declared.activity.Activity.{Activity};
-ghost use Rattle.duty_core.specs.declared.mark.Mark.{Mark};
 ghost use Rattle.duty_core.specs.declared.limits.TheConstants.{LONGEST_LOG};
 ghost use Rattle.duty_core.specs.Params.{unit_minutes};
 ghost use Rattle.tour_model.specs.declared.label.Label.{Label};
 ghost use Rattle.tour_model.specs.Tour.{IsTour};
-ghost use Rattle.tour_model.specs.Schedule.{log_start, duration, IsSolution, IsShortest, IsInfeasible};
+ghost use Rattle.tour_model.specs.Schedule.{duration, IsSolution, IsShortest, IsInfeasible};
 ghost use Rattle.cert_text.specs.declared.cert.Cert.{Cert};
 ghost use Rattle.cert_text.specs.declared.cert.CertKind.TheVariants.{Shortest, Infeasible};
 ghost use Rattle.cert_text.specs.Planning.{problem_of, state_at, IsLogState};
@@ -24,24 +23,18 @@ use tour_model::Tour;
 /// kind infeasible is valid, there is no solution.
 pub fn cover_lists_prove<B: RuleBook>(book: &B, tour: &Tour, log: &Timeline)
     requires tour { IsTour tour.now }
-    requires params { B.params_of book.now ≡ tour.now.params }
+    requires params { (B.machine book.now).params ≡ tour.now.params }
     requires short { unit_minutes tour.now.params * length log.now ≤ LONGEST_LOG }
     ensures least { (target : Option ℕ) (layers : List (List (Label B.State))) →
-        IsCoverList (problem_of tour.now (B.advances_of book.now) (B.covering book.now) (B.idles_of book.now)) (state_at tour.now (B.is_state_at book.now))
-        (IsLogState tour.now log.now (B.root_of book.now (log_start tour.now log.now)) (B.nexts_of book.now)) target layers →
+        IsCoverList (problem_of tour.now (B.machine book.now)) (state_at tour.now (B.machine book.now))
+        (IsLogState tour.now log.now (B.machine book.now)) target layers →
         (schedule : List Activity) → IsSolution tour.now log.now schedule → IsAtLeast target (duration schedule) }
     ensures none { (layers : List (List (Label B.State))) →
-        IsCoverList (problem_of tour.now (B.advances_of book.now) (B.covering book.now) (B.idles_of book.now)) (state_at tour.now (B.is_state_at book.now))
-        (IsLogState tour.now log.now (B.root_of book.now (log_start tour.now log.now)) (B.nexts_of book.now)) None layers →
+        IsCoverList (problem_of tour.now (B.machine book.now)) (state_at tour.now (B.machine book.now))
+        (IsLogState tour.now log.now (B.machine book.now)) None layers →
         IsInfeasible tour.now log.now }
-    ensures shortest { (state_of : List ℕ → ℕ → Option B.State) (cert : Cert) →
-        IsValidCert tour.now log.now (problem_of tour.now (B.advances_of book.now) (B.covering book.now) (B.idles_of book.now)) (B.is_state_at book.now)
-        (IsLogState tour.now log.now (B.root_of book.now (log_start tour.now log.now)) (B.nexts_of book.now)) state_of cert →
-        cert.kind ≡ Shortest → IsShortest tour.now log.now (acts_of_runs cert.schedule) }
-    ensures infeasible { (state_of : List ℕ → ℕ → Option B.State) (cert : Cert) →
-        IsValidCert tour.now log.now (problem_of tour.now (B.advances_of book.now) (B.covering book.now) (B.idles_of book.now)) (B.is_state_at book.now)
-        (IsLogState tour.now log.now (B.root_of book.now (log_start tour.now log.now)) (B.nexts_of book.now)) state_of cert →
-        cert.kind ≡ Infeasible → IsInfeasible tour.now log.now }
+    ensures shortest { (cert : Cert) → IsValidCert tour.now log.now (B.machine book.now) cert → cert.kind ≡ Shortest → IsShortest tour.now log.now (acts_of_runs cert.schedule) }
+    ensures infeasible { (cert : Cert) → IsValidCert tour.now log.now (B.machine book.now) cert → cert.kind ≡ Infeasible → IsInfeasible tour.now log.now }
 {
     let _ = book;
     let _ = tour;

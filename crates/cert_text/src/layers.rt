@@ -9,7 +9,7 @@ use crate::words::{dash_or_number, number, strip, word};
 use rule_core::{MOST_NUMBERS, Numbers};
 use std::alloc::Global;
 
-/// The numbers of a state, each behind a space, at most `MOST_NUMBERS` of them.
+/// The numbers of a state, each after a space, at most `MOST_NUMBERS` of them.
 fn numbers(alloc: Global, bytes: &[u8]) -> Result<(Numbers, &[u8]), Stop>
     ensures { Gives (λ x. (x.0, x.1.now)) result (numbers_at MOST_NUMBERS bytes.now) }
 {
@@ -19,9 +19,9 @@ fn numbers(alloc: Global, bytes: &[u8]) -> Result<(Numbers, &[u8]), Stop>
         let Some(digits) = strip(b" ", rest) else {
             break;
         };
-        let (next, behind) = number(digits)?;
+        let (next, thereafter) = number(digits)?;
         numbers.push(next)?;
-        rest = behind;
+        rest = thereafter;
     }
     Ok((numbers, rest))
 }
@@ -53,9 +53,9 @@ fn labels(alloc: Global, count: u32, bytes: &[u8]) -> Result<(CertLabels, &[u8])
     let mut labels = CertLabels::new(alloc);
     let mut rest = bytes;
     for _ in 0..count {
-        let (next, behind) = label(alloc, rest)?;
+        let (next, thereafter) = label(alloc, rest)?;
         labels.push(next)?;
-        rest = behind;
+        rest = thereafter;
     }
     Ok((labels, rest))
 }
@@ -94,9 +94,9 @@ pub fn layers(alloc: Global, count: u32, bytes: &[u8]) -> Result<(CertLayers, &[
     let mut layers = CertLayers::new(alloc);
     let mut rest = bytes;
     for step in 0..count {
-        let (next, behind) = layer(alloc, step, rest)?;
+        let (next, thereafter) = layer(alloc, step, rest)?;
         layers.push(next)?;
-        rest = behind;
+        rest = thereafter;
     }
     Ok((layers, rest))
 }

@@ -81,7 +81,7 @@ fn mark_of(params: Params, defers: bool, at: Minute) -> Option<Mark>
     }
 }
 
-/// Whether a mark may stand at the minute, so that the marks behind it have room before the century
+/// Whether a mark may stand at the minute, so that the marks after it have room before the century
 /// ends.
 fn has_room(place: MarkPlace, at: Minute) -> bool
     requires { at < MINUTES_OF_CENTURY }
@@ -129,10 +129,10 @@ pub fn marks(
             least,
             left: count - done,
         };
-        let (next, behind) = mark(params, place, rest)?;
+        let (next, thereafter) = mark(params, place, rest)?;
         marks.push(next.mark)?;
         least = next.at + 1;
-        rest = behind;
+        rest = thereafter;
     }
     Ok((marks, rest))
 }

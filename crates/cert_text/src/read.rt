@@ -34,7 +34,7 @@ fn target(bytes: &[u8]) -> Result<(u32, &[u8]), Stop>
     }
 }
 
-/// The claim of a certificate of kind shortest, behind the line of its kind.
+/// The claim of a certificate of kind shortest, after the line of its kind.
 #[tactic(auto, unfolding(crate::specs::Reading::shortest_at))]
 fn shortest(alloc: Global, params: Params, bytes: &[u8]) -> Result<(Claim, &[u8]), Stop>
     requires { day_start params < 1440 }
@@ -54,7 +54,7 @@ fn shortest(alloc: Global, params: Params, bytes: &[u8]) -> Result<(Claim, &[u8]
     Ok((claim, rest))
 }
 
-/// The claim of a certificate of kind infeasible, behind the line of its kind.
+/// The claim of a certificate of kind infeasible, after the line of its kind.
 #[tactic(auto, unfolding(crate::specs::Reading::infeasible_at))]
 fn infeasible(alloc: Global, bytes: &[u8]) -> Result<(Claim, &[u8]), Stop>
     ensures { Gives (λ x. (x.0, x.1.now)) result (infeasible_at bytes.now) }

@@ -43,7 +43,7 @@ fn is_same(a: Activity, b: Activity) -> bool
     a == b
 }
 
-/// Whether a run of this activity may stand behind one of the activity before.
+/// Whether a run of this activity may stand after one of the activity before.
 fn may_follow(before: Option<Activity>, act: Activity) -> bool
     ensures { result ≡ may_follow before act }
 {
@@ -53,7 +53,7 @@ fn may_follow(before: Option<Activity>, act: Activity) -> bool
     }
 }
 
-/// The run at the front, behind one of the activity before.
+/// The run at the front, after one of the activity before.
 #[tactic(auto, unfolding(crate::specs::Reading::run_at))]
 fn run(before: Option<Activity>, bytes: &[u8]) -> Result<(StepRun, &[u8]), Stop>
     ensures { Gives (λ x. (x.0, x.1.now)) result (run_at before bytes.now) }
@@ -79,10 +79,10 @@ pub fn runs(alloc: Global, count: u32, bytes: &[u8]) -> Result<(StepRuns, &[u8])
     let mut before = None;
     let mut rest = bytes;
     for _ in 0..count {
-        let (next, behind) = run(before, rest)?;
+        let (next, thereafter) = run(before, rest)?;
         runs.push(next)?;
         before = Some(next.act);
-        rest = behind;
+        rest = thereafter;
     }
     Ok((runs, rest))
 }

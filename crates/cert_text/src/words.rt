@@ -5,7 +5,7 @@ ghost use Rattle.cert_text.specs.Reading.{Gives, strip_at, word_at, digits_at, n
 use crate::fault::Stop;
 use rule_core::NUMBER_LIMIT;
 
-/// What stands behind the word, where it stands at the front.
+/// What stands after the word, where it stands at the front.
 #[tactic(auto, unfolding(crate::specs::Reading::strip_at))]
 pub fn strip<'a>(word: &[u8], bytes: &'a [u8]) -> Option<&'a [u8]>
     ensures { MatchOption result (strip_at word.now bytes.now ≡ None) (λ x. strip_at word.now bytes.now ≡ Some x.now) }
@@ -17,7 +17,7 @@ pub fn strip<'a>(word: &[u8], bytes: &'a [u8]) -> Option<&'a [u8]>
     if front == word { Some(rest) } else { None }
 }
 
-/// What stands behind the word.
+/// What stands after the word.
 pub fn word<'a>(word: &[u8], bytes: &'a [u8]) -> Result<&'a [u8], Stop>
     ensures { Gives (λ x. x.now) result (word_at word.now bytes.now) }
 {
@@ -73,7 +73,7 @@ pub fn dash_or_number(bytes: &[u8]) -> Result<(Option<u32>, &[u8]), Stop>
     }
 }
 
-/// The number behind a word, to the end of the line.
+/// The number after a word, to the end of the line.
 #[tactic(auto, unfolding(crate::specs::Reading::number_line_at))]
 pub fn number_line<'a>(name: &[u8], bytes: &'a [u8]) -> Result<(u32, &'a [u8]), Stop>
     ensures { Gives (λ x. (x.0, x.1.now)) result (number_line_at name.now bytes.now) }

@@ -235,7 +235,7 @@ fn put_claim(out: &mut Vec<u8>, cert: &Cert) -> Result<(), NoMemory>
     put_number_line(out, b"marks ", cert.marks.items().len() as u32)
 }
 
-/// Puts what stands behind the marks at the end.
+/// Puts what stands after the marks at the end.
 fn put_cover(out: &mut Vec<u8>, layers: &[CertLabels]) -> Result<(), NoMemory>
     requires few { length layers.now < NUMBER_LIMIT }
     requires layers { All IsLayerForm layers.now }

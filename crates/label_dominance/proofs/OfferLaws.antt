@@ -6,13 +6,14 @@ use Rattle.std.proofs.lemmas.Bool.Decides.{nat_tests}
 use Rattle.std.proofs.lemmas.List.{take_all, get_or-map, length-map, take-map}
 use Rattle.std.proofs.lemmas.Option.{slice_get_read}
 use Rattle.rule_core.specs.Reach.{IsOneOf}
-use Rattle.rule_core.specs.OneOf.{one_of_item}
+use Rattle.rule_core.specs.Laws.OneOf.{one_of_item}
 use Rattle.tour_model.specs.declared.label.Label.{Label}
 use Rattle.label_state.specs.declared.kept.Kept.{Kept}
 use Rattle.label_state.specs.Layers.{labels_of}
-use Rattle.label_state.specs.LayerLaws.{label_kept, place_of_one, place_taken}
-use Rattle.label_state.specs.Buckets.{places_of, ArePlaces}
-use Rattle.label_state.specs.BucketLaws.{are_places}
+use Rattle.label_state.specs.Laws.LayerLaws.{label_kept, place_of_one, place_taken}
+use Rattle.label_state.specs.Buckets.{places_of}
+use Rattle.label_state.specs.Laws.Buckets.{ArePlaces}
+use Rattle.label_state.specs.Laws.BucketLaws.{are_places}
 use Rattle.cert_text.specs.Problem.{Problem, later, is_better}
 use Rattle.cert_text.specs.Cover.{NoneCovers}
 use Rattle.label_dominance.specs.Offers.{IsFirstCover}

@@ -49,11 +49,10 @@ fn stands_for<B: RuleBook>(
     step: u32,
 ) -> bool
     requires tour { IsTour tour.now }
-    requires a { B.is_state_at book.now a.now.state (minute_of tour.now step) }
-    requires b { B.is_state_at book.now b.now.state (minute_of tour.now step) }
+    requires a { (B.machine book.now).is_state a.now.state (minute_of tour.now step) }
+    requires b { (B.machine book.now).is_state b.now.state (minute_of tour.now step) }
     requires step { step < STEP_LIMIT }
-    ensures { result ≡ is_better (problem_of tour.now (B.advances_of book.now)
-        (B.covering book.now) (B.idles_of book.now)) step a.now b.now }
+    ensures { result ≡ is_better (problem_of tour.now (B.machine book.now)) step a.now b.now }
 {
     a.progress == b.progress
         && departs_later(a.depart, b.depart)
@@ -71,15 +70,14 @@ pub fn better<B: RuleBook>(
     step: u32,
 ) -> bool
     requires tour { IsTour tour.now }
-    requires params { B.params_of book.now ≡ tour.now.params }
-    requires a { B.is_state_at book.now a.now.state (minute_of tour.now step) }
-    requires b { B.is_state_at book.now b.now.state (minute_of tour.now step) }
+    requires params { (B.machine book.now).params ≡ tour.now.params }
+    requires a { (B.machine book.now).is_state a.now.state (minute_of tour.now step) }
+    requires b { (B.machine book.now).is_state b.now.state (minute_of tour.now step) }
     requires step { step < STEP_LIMIT }
-    ensures exact { result ≡ is_better (problem_of tour.now (B.advances_of book.now)
-        (B.covering book.now) (B.idles_of book.now)) step a.now b.now }
-    ensures answers { IsTrue result → IsLabelAt (state_at tour.now (B.is_state_at book.now)) (word_length tour.now) step a.now →
-        IsLabelAt (state_at tour.now (B.is_state_at book.now)) (word_length tour.now) step b.now →
-        AnswersContinuations (problem_of tour.now (B.advances_of book.now) (B.covering book.now) (B.idles_of book.now)) (allows tour.now.params) step a.now b.now }
+    ensures exact { result ≡ is_better (problem_of tour.now (B.machine book.now)) step a.now b.now }
+    ensures answers { IsTrue result → IsLabelAt (state_at tour.now (B.machine book.now)) (word_length tour.now) step a.now →
+        IsLabelAt (state_at tour.now (B.machine book.now)) (word_length tour.now) step b.now →
+        AnswersContinuations (problem_of tour.now (B.machine book.now)) (allows tour.now.params) step a.now b.now }
 {
     stands_for(book, tour, a, b, step)
 }
@@ -95,13 +93,12 @@ fn first_cover<B: RuleBook>(
     step: u32,
 ) -> Option<u32>
     requires tour { IsTour tour.now }
-    requires params { B.params_of book.now ≡ tour.now.params }
-    requires layer { AreStatesAt (state_at tour.now (B.is_state_at book.now)) step (labels_of layer.now) }
-    requires label { B.is_state_at book.now label.now.state (minute_of tour.now step) }
+    requires params { (B.machine book.now).params ≡ tour.now.params }
+    requires layer { AreStatesAt (state_at tour.now (B.machine book.now)) step (labels_of layer.now) }
+    requires label { (B.machine book.now).is_state label.now.state (minute_of tour.now step) }
     requires step { step < STEP_LIMIT }
     requires places { places.now ≡ places_of label.now.progress layer.now }
-    ensures { IsCoverSought (problem_of tour.now (B.advances_of book.now)
-        (B.covering book.now) (B.idles_of book.now)) step (labels_of layer.now) label.now result }
+    ensures { IsCoverSought (problem_of tour.now (B.machine book.now)) step (labels_of layer.now) label.now result }
 {
     for place in places {
         if better(book, tour, &layer[*place as usize].label, label, step) {
@@ -120,13 +117,12 @@ pub fn offer<B: RuleBook>(
     kept: Kept<B::State>,
 ) -> Result<Offered, NoMemory>
     requires tour { IsTour tour.now }
-    requires params { B.params_of book.now ≡ tour.now.params }
+    requires params { (B.machine book.now).params ≡ tour.now.params }
     requires some { 0 < length layers.old }
     requires room { label_count layers.old < LAYER_LIMIT }
-    requires layer { AreStatesAt (state_at tour.now (B.is_state_at book.now)) (last_step layers.old) (labels_of (last_layer layers.old)) }
-    requires label { B.is_state_at book.now kept.label.state (minute_of tour.now (last_step layers.old)) }
-    ensures offered { IfOk result (IsOffered (problem_of tour.now (B.advances_of book.now)
-        (B.covering book.now) (B.idles_of book.now)) layers.old kept layers.new) }
+    requires layer { AreStatesAt (state_at tour.now (B.machine book.now)) (last_step layers.old) (labels_of (last_layer layers.old)) }
+    requires label { (B.machine book.now).is_state kept.label.state (minute_of tour.now (last_step layers.old)) }
+    ensures offered { IfOk result (IsOffered (problem_of tour.now (B.machine book.now)) layers.old kept layers.new) }
     ensures err { OnErr result (layers.new ≡ layers.old) }
 {
     let step = layers.depth() - 1;

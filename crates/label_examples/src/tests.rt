@@ -21,7 +21,7 @@ const FORM: &str =
 /// The book of a tour of the United States.
 fn book_of(params: Params) -> Option<UsBook>
     requires { IsParams params }
-    ensures { IfSome result (λ book. ⟦<UsBook as RuleBook>⟧.params_of book ≡ params) }
+    ensures { IfSome result (λ book. (⟦<UsBook as RuleBook>⟧.machine book).params ≡ params) }
 {
     match params {
         Params::UsProperty {
@@ -36,8 +36,8 @@ fn book_of(params: Params) -> Option<UsBook>
 /// The label of a driver with no history at the start of the tour.
 fn first_label<B: RuleBook>(book: &B, tour: &Tour) -> Result<Label<B::State>, NoMemory>
     requires tour { IsTour tour.now }
-    requires params { B.params_of book.now ≡ tour.now.params }
-    ensures state { IfOk result (λ label. B.is_state_at book.now label.state (minute_of tour.now 0)) }
+    requires params { (B.machine book.now).params ≡ tour.now.params }
+    ensures state { IfOk result (λ label. (B.machine book.now).is_state label.state (minute_of tour.now 0)) }
     ensures progress { IfOk result (λ label. label.progress ≡ 0) }
 {
     Ok(Label {
@@ -55,7 +55,7 @@ fn grows_by_driving_and_by_rest<B: RuleBook>(
     tour: &Tour,
 ) -> Result<(), Fail>
     requires tour { IsTour tour.now }
-    requires params { B.params_of book.now ≡ tour.now.params }
+    requires params { (B.machine book.now).params ≡ tour.now.params }
 {
     let label = first_label(book, tour)?;
     let growths = successors(alloc, book, tour, &label, 0)?;
@@ -73,8 +73,8 @@ fn grows_by_driving_and_by_rest<B: RuleBook>(
 /// An entry of the first layer.
 fn kept_first<B: RuleBook>(book: &B, tour: &Tour) -> Result<Kept<B::State>, NoMemory>
     requires tour { IsTour tour.now }
-    requires params { B.params_of book.now ≡ tour.now.params }
-    ensures { IfOk result (λ kept. B.is_state_at book.now kept.label.state (minute_of tour.now 0)) }
+    requires params { (B.machine book.now).params ≡ tour.now.params }
+    ensures { IfOk result (λ kept. (B.machine book.now).is_state kept.label.state (minute_of tour.now 0)) }
 {
     Ok(Kept {
         label: first_label(book, tour)?,
@@ -92,7 +92,7 @@ fn keeps_a_label_once<B: RuleBook>(
     tour: &Tour,
 ) -> Result<(), Fail>
     requires tour { IsTour tour.now }
-    requires params { B.params_of book.now ≡ tour.now.params }
+    requires params { (B.machine book.now).params ≡ tour.now.params }
 {
     let one = kept_first(book, tour)?;
     let other = kept_first(book, tour)?;

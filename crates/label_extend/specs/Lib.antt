@@ -1,2 +1,2 @@
 pub mod Growths
-pub mod GrowthLaws
+pub mod Laws

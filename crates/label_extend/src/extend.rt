@@ -92,12 +92,12 @@ fn push_by<B: RuleBook>(
     act: Activity,
 ) -> Result<(), NoMemory>
     requires tour { IsTour tour.now }
-    requires params { B.params_of book.now ≡ tour.now.params }
-    requires state { B.is_state_at book.now label.now.state (minute_of tour.now step) }
+    requires params { (B.machine book.now).params ≡ tour.now.params }
+    requires state { (B.machine book.now).is_state label.now.state (minute_of tour.now step) }
     requires progress { label.now.progress ≤ word_length tour.now }
     requires step { step < STEP_LIMIT }
     ensures ok { OnOk result (list.new ≡ list.old
-        ++ grown_by (problem_of tour.now (B.advances_of book.now) (B.covering book.now) (B.idles_of book.now)) step label.now act) }
+        ++ grown_by (problem_of tour.now (B.machine book.now)) step label.now act) }
 {
     if !tour.may_do(step, label.progress, act) {
         return Ok(());
@@ -123,13 +123,13 @@ pub fn successors<B: RuleBook>(
     step: u32,
 ) -> Result<Growths<B::State>, NoMemory>
     requires tour { IsTour tour.now }
-    requires params { B.params_of book.now ≡ tour.now.params }
-    requires state { B.is_state_at book.now label.now.state (minute_of tour.now step) }
+    requires params { (B.machine book.now).params ≡ tour.now.params }
+    requires state { (B.machine book.now).is_state label.now.state (minute_of tour.now step) }
     requires progress { label.now.progress ≤ word_length tour.now }
     requires step { step < STEP_LIMIT }
-    ensures exact { IfOk result (λ list. list ≡ successors_of (problem_of tour.now (B.advances_of book.now) (B.covering book.now) (B.idles_of book.now)) step label.now) }
-    ensures labels { IsLabelAt (state_at tour.now (B.is_state_at book.now)) (word_length tour.now) step label.now →
-        IfOk result (AreGrownAt (state_at tour.now (B.is_state_at book.now)) (word_length tour.now) (step + 1)) }
+    ensures exact { IfOk result (λ list. list ≡ successors_of (problem_of tour.now (B.machine book.now)) step label.now) }
+    ensures labels { IsLabelAt (state_at tour.now (B.machine book.now)) (word_length tour.now) step label.now →
+        IfOk result (AreGrownAt (state_at tour.now (B.machine book.now)) (word_length tour.now) (step + 1)) }
     ensures finished { label.now.progress ≡ word_length tour.now → IfOk result (λ list. list ≡ []) }
 {
     let mut list = Growths::new(alloc);

@@ -5,7 +5,7 @@ use Rattle.std.proofs.lemmas.List.{take_more, take_all}
 use Rattle.std.proofs.lemmas.Option.{slice_get_read}
 use Rattle.std.proofs.lemmas.Bool.Decides.{nat_tests}
 use Rattle.rule_core.specs.Reach.{IsOneOf}
-use Rattle.rule_core.specs.OneOf.{one_of-append}
+use Rattle.rule_core.specs.Laws.OneOf.{one_of-append}
 use Rattle.tour_model.specs.declared.label.Label.{Label}
 use Rattle.label_state.specs.declared.kept.Kept.{Kept}
 use Rattle.label_state.specs.declared.kept.Place.{Place}

@@ -3,11 +3,11 @@ use Rattle.std.proofs.Common.{◌≡◌, ℕ, ◌+◌, ◌-◌, ◌<◌, ◌≤�
 use Rattle.std.specs.Prelude.{Option, None, Some, ◌==◌}
 use Rattle.std.proofs.lemmas.Bool.Decides.{nat_tests}
 use Rattle.rule_core.specs.Reach.{IsOneOf}
-use Rattle.rule_core.specs.OneOf.{one_of-append, one_of-append_left, one_of-append_right}
+use Rattle.rule_core.specs.Laws.OneOf.{one_of-append, one_of-append_left, one_of-append_right}
 use Rattle.tour_model.specs.declared.label.Label.{Label}
 use Rattle.label_state.specs.declared.kept.Kept.{Kept}
 use Rattle.label_state.specs.Layers.{labels_of, label_count, last_step, last_layer, with_kept}
-use Rattle.label_state.specs.LayerLaws.{one_of_labels, layer_new, count_pushed}
+use Rattle.label_state.specs.Laws.LayerLaws.{one_of_labels, layer_new, count_pushed}
 use Rattle.cert_text.specs.Problem.{Problem, later, is_better}
 use Rattle.cert_text.specs.Cover.{IsCovered, NoneCovers, NoneIsBetter}
 use Rattle.label_dominance.specs.Offers.{IsFirstCover, IsOffered}
@@ -17,6 +17,7 @@ use Rattle.label_search.specs.Sound.{StandsBefore}
 use Rattle.label_search.specs.Searching.{IsFilled, AddsLayer}
 use Rattle.label_search.proofs.Places.{one_of_place}
 use Rattle.label_search.proofs.OrderLaws.{ordered_push}
+use Rattle.label_search.proofs.TurnLaws.{parents_front, turn_first, turn_kept, turn_covered, turn_full}
 
 -- ---- the last of layers to which one was added
 
@@ -53,7 +54,7 @@ none_better_push problem step (x ∷ ls) l h n = (
 )
 
 pub filled_first : {S : Type 0} (problem : Problem S) (step room : ℕ) → IsFilled problem step room [] []
-filled_first problem step room = record { only = λ k o. o; better = tt; ordered = tt; bounded = omega arith; covers = λ lt k o. absurd o }
+filled_first problem step room = record { only = λ k o. o; better = tt; ordered = tt; bounded = omega arith; covers = λ lt k o. absurd o; in_turn = λ up. turn_first problem step room }
 
 covered_more : {S : Type 0} (problem : Problem S) (step : ℕ) (ls : List (Label S)) (m l : Label S) → IsCovered problem step ls l → IsCovered problem step (ls ++ m ∷ []) l
 covered_more problem step ls m l c = (c.0, one_of-append_left ls (m ∷ []) c.0 c.1, c.2)
@@ -74,6 +75,7 @@ filled_kept problem step room through layer k h none before itself lt =
           | inr z ↦ absurd z
         ]
       ];
+      in_turn = λ up. turn_kept problem step room through layer k up h.only lt (h.in_turn (parents_front through (k ∷ []) up));
     }
 
 pub filled_covered : {S : Type 0} (problem : Problem S) (step room : ℕ) (through layer : List (Kept S)) (k : Kept S) (i : ℕ) → IsFilled problem step room through layer → IsFirstCover problem step (labels_of layer) k.label i →
@@ -90,12 +92,13 @@ filled_covered problem step room through layer k i h c = record {
       | inr z ↦ absurd z
     ]
   ];
+  in_turn = λ up. turn_covered problem step room through layer k up h.only (c.cover, one_of_place (labels_of layer) i c.cover c.there, c.better) (h.in_turn (parents_front through (k ∷ []) up));
 }
 
 -- ---- the layer as it is added
 
 pub adds_first : {S : Type 0} (problem : Problem S) (budget : ℕ) (old : List (List (Kept S))) → AddsLayer problem budget [] old (old ++ [] ∷ [])
-adds_first problem budget old = record { layer = []; behind = refl; filled = filled_first problem (length old) (budget - label_count old) }
+adds_first problem budget old = record { layer = []; thereafter = refl; filled = filled_first problem (length old) (budget - label_count old) }
 
 -- what was answered to one more offer
 pub adds_more : {S : Type 0} (problem : Problem S) (budget : ℕ) (through : List (Kept S)) (k : Kept S) (old layers new : List (List (Kept S))) (o : Offered) → AddsLayer problem budget through old layers → IsOffered problem layers k new o →
@@ -104,34 +107,35 @@ adds_more {S} problem budget through k old layers new offered.Kept a h before it
     let x = a.layer in
     let none : NoneCovers problem (length old) (labels_of x) k.label =
     subst (λ n. NoneCovers problem n (labels_of x) k.label) (step_added old x) (subst (λ ys. NoneCovers problem (last_step (old ++ x ∷ [])) (labels_of ys) k.label) (layer_added old x)
-    (subst (λ ls. NoneCovers problem (last_step ls) (labels_of (last_layer ls)) k.label) a.behind h.0)) in
-    let count : label_count layers ≡ label_count old + length x = ap label_count a.behind ∙ count_pushed old x in
+    (subst (λ ls. NoneCovers problem (last_step ls) (labels_of (last_layer ls)) k.label) a.thereafter h.0)) in
+    let count : label_count layers ≡ label_count old + length x = ap label_count a.thereafter ∙ count_pushed old x in
     record {
       layer = x ++ k ∷ [];
-      behind = h.1 ∙ (ap (λ ls. with_kept ls k) a.behind ∙ kept_added old x k);
+      thereafter = h.1 ∙ (ap (λ ls. with_kept ls k) a.thereafter ∙ kept_added old x k);
       filled = filled_kept problem (length old) (budget - label_count old) through x k a.filled none before itself (omega arith);
     }
 adds_more {S} problem budget through k old layers new (offered.Covered i) a h before itself le room =
     let x = a.layer in
     let first : IsFirstCover problem (length old) (labels_of x) k.label i =
     subst (λ n. IsFirstCover problem n (labels_of x) k.label i) (step_added old x) (subst (λ ys. IsFirstCover problem (last_step (old ++ x ∷ [])) (labels_of ys) k.label i) (layer_added old x)
-    (subst (λ ls. IsFirstCover problem (last_step ls) (labels_of (last_layer ls)) k.label i) a.behind h.0)) in
-    record { layer = x; behind = h.1 ∙ a.behind; filled = filled_covered problem (length old) (budget - label_count old) through x k i a.filled first }
+    (subst (λ ls. IsFirstCover problem (last_step ls) (labels_of (last_layer ls)) k.label i) a.thereafter h.0)) in
+    record { layer = x; thereafter = h.1 ∙ a.thereafter; filled = filled_covered problem (length old) (budget - label_count old) through x k i a.filled first }
 
 -- a full layer takes no more
-pub adds_full : {S : Type 0} (problem : Problem S) (budget : ℕ) (through list : List (Kept S)) (old layers : List (List (Kept S))) → ((k : Kept S) → IsOneOf through k → IsOneOf list k) → AddsLayer problem budget through old layers → label_count old ≤ budget →
-    budget ≤ label_count layers → AddsLayer problem budget list old layers
-adds_full problem budget through list old layers part a le full =
-    let count : label_count layers ≡ label_count old + length a.layer = ap label_count a.behind ∙ count_pushed old a.layer in
+pub adds_full : {S : Type 0} (problem : Problem S) (budget : ℕ) (through rest : List (Kept S)) (old layers : List (List (Kept S))) → AddsLayer problem budget through old layers → label_count old ≤ budget →
+    budget ≤ label_count layers → AddsLayer problem budget (through ++ rest) old layers
+adds_full problem budget through rest old layers a le full =
+    let count : label_count layers ≡ label_count old + length a.layer = ap label_count a.thereafter ∙ count_pushed old a.layer in
     record {
       layer = a.layer;
-      behind = a.behind;
+      thereafter = a.thereafter;
       filled = record {
-        only = λ k o. part k (a.filled.only k o);
+        only = λ k o. one_of-append_left through rest k (a.filled.only k o);
         better = a.filled.better;
         ordered = a.filled.ordered;
         bounded = a.filled.bounded;
         covers = λ lt k o. absurd (omega arith);
+        in_turn = λ up. turn_full problem (length old) (budget - label_count old) through rest a.layer up a.filled.only (let most = a.filled.bounded in omega arith) (a.filled.in_turn (parents_front through rest up));
       };
     }
 
@@ -156,5 +160,5 @@ filled_some problem step room (k ∷ list) (x ∷ layer) f lt some = omega arith
 pub adds_some : {S : Type 0} (problem : Problem S) (budget : ℕ) (list : List (Kept S)) (old new : List (List (Kept S))) → AddsLayer problem budget list old new → label_count old < budget → 0 < length list → label_count old < label_count new
 adds_some problem budget list old new a lt some =
     let more = filled_some problem (length old) (budget - label_count old) list a.layer a.filled (omega arith) some in
-    let count : label_count new ≡ label_count old + length a.layer = ap label_count a.behind ∙ count_pushed old a.layer in
+    let count : label_count new ≡ label_count old + length a.layer = ap label_count a.thereafter ∙ count_pushed old a.layer in
     omega arith

@@ -1,7 +1,7 @@
 -- What gathering the labels for a layer comes to.
 use Rattle.std.proofs.Common.{◌≡◌, ℕ, ◌+◌, ◌-◌, ◌<◌, ◌≤◌, true, false, List, [], ◌∷◌, ◌++◌, length, take, get_or, refl, sym, ◌∙◌, ap, subst, arith, inl, inr, ◌⊎◌}
 use Rattle.std.specs.Prelude.{Option, None, Some, slice_get, nat_le, not}
-use Rattle.std.specs.List.Sorted.{IsPermutation}
+use Rattle.std.specs.List.Sorted.{IsPermutation, IsStrictlyIncreasing}
 use Rattle.std.proofs.lemmas.List.Sorted.{IsPermutation-sym}
 use Rattle.std.proofs.lemmas.Bool.{cases_lt}
 use Rattle.std.proofs.lemmas.Bool.Decides.{nat_tests}
@@ -10,62 +10,63 @@ use Rattle.std.proofs.lemmas.Option.{slice_get_read}
 use Rattle.duty_core.specs.declared.activity.Activity.TheVariants.{Off}
 use Rattle.rule_core.specs.declared.roots.Root.{Root}
 use Rattle.rule_core.specs.Reach.{IsOneOf}
-use Rattle.rule_core.specs.OneOf.{one_of-append, one_of-append_left, one_of-append_right}
+use Rattle.rule_core.specs.Laws.OneOf.{one_of-append, one_of-append_left, one_of-append_right}
 use Rattle.tour_model.specs.declared.label.Label.{Label}
 use Rattle.tour_model.specs.declared.limits.TheConstants.{STEP_LIMIT}
 use Rattle.cert_text.specs.declared.grown.Grown.{Grown}
 use Rattle.label_state.specs.declared.kept.Kept.{Kept}
 use Rattle.label_state.specs.Layers.{labels_of}
-use Rattle.label_state.specs.LayerLaws.{one_of_labels, label_kept}
-use Rattle.cert_text.specs.Problem.{Problem, root_label, successors_of, later, HasEta}
-use Rattle.cert_text.specs.Cover.{IsAtLeast, IsTooLong, IsLetOff, IsLabelAt}
+use Rattle.label_state.specs.Laws.LayerLaws.{one_of_labels, label_kept}
+use Rattle.cert_text.specs.Problem.{Problem, root_label, successors_of, later, HasBound}
+use Rattle.cert_text.specs.Cover.{IsAtLeast, IsTooLong, IsPruned, IsLabelAt}
 use Rattle.label_extend.specs.Growths.{AreGrownAt}
-use Rattle.label_search.specs.Sound.{IsFirst, GrewFrom, AreOrdered}
+use Rattle.label_search.specs.Sound.{IsFirst, parents_of, GrewFrom, AreOrdered}
 use Rattle.label_search.specs.Searching.{AreLabelsAt, AreSmall, IsGathered, Gathers, AreGathered, AreFirst, is_long, is_useful}
 use Rattle.label_search.proofs.Places.{one_of_permuted}
+use Rattle.label_search.proofs.TurnLaws.{one_of_parents, parent_kept, parents_push}
 
--- ---- which labels are let off
+-- ---- which labels are pruned
 
-has_eta_by : {S : Type 0} (problem : Problem S) (limit : Option ℕ) (step : ℕ) (l : Label S) (o : Option ℕ) → problem.eta step l.progress ≡ o → is_useful limit l.depart o ≡ true → HasEta problem step l
-has_eta_by problem limit step l None e u = absurd (let z : false ≡ true = u in cc)
-has_eta_by problem limit step l (Some eta) e u = record { eta = eta; is = e }
+has_bound_by : {S : Type 0} (problem : Problem S) (limit : Option ℕ) (step : ℕ) (l : Label S) (o : Option ℕ) → problem.bound step l ≡ o → is_useful limit l.depart o ≡ true → HasBound problem step l
+has_bound_by problem limit step l None e u = absurd (let z : false ≡ true = u in cc)
+has_bound_by problem limit step l (Some eta) e u = record { bound = eta; is = e }
 
-pub useful_has_eta : {S : Type 0} (problem : Problem S) (limit : Option ℕ) (step : ℕ) (l : Label S) → is_useful limit l.depart (problem.eta step l.progress) ≡ true → HasEta problem step l
-useful_has_eta problem limit step l u = has_eta_by problem limit step l (problem.eta step l.progress) refl u
+pub useful_has_bound : {S : Type 0} (problem : Problem S) (limit : Option ℕ) (step : ℕ) (l : Label S) → is_useful limit l.depart (problem.bound step l) ≡ true → HasBound problem step l
+useful_has_bound problem limit step l u = has_bound_by problem limit step l (problem.bound step l) refl u
 
 beats_at : (limit : Option ℕ) (d e : ℕ) → is_useful limit (Some d) (Some e) ≡ true → IsAtLeast limit (e - d) → ⊥
 beats_at None d e u a = a
 beats_at (Some t) d e u a = let z : not (nat_le t (e - d)) ≡ true = u in let b : t ≤ e - d = a in absurd (let r : e - d < t = grind (arith, nat_tests) in omega arith)
 
-pub useful_beats : {S : Type 0} (problem : Problem S) (limit : Option ℕ) (step : ℕ) (l : Label S) → is_useful limit l.depart (problem.eta step l.progress) ≡ true → IsTooLong problem limit step l → ⊥
+pub useful_beats : {S : Type 0} (problem : Problem S) (limit : Option ℕ) (step : ℕ) (l : Label S) → is_useful limit l.depart (problem.bound step l) ≡ true → IsTooLong problem limit step l → ⊥
 useful_beats problem limit step l u t =
-    beats_at limit t.depart t.eta (subst (λ o. is_useful limit o (Some t.eta) ≡ true) t.departed (subst (λ o. is_useful limit l.depart o ≡ true) t.ends u)) t.long
+    beats_at limit t.depart t.bound (subst (λ o. is_useful limit o (Some t.bound) ≡ true) t.departed (subst (λ o. is_useful limit l.depart o ≡ true) t.ends u)) t.long
 
-too_long : {S : Type 0} (problem : Problem S) (limit : Option ℕ) (step : ℕ) (l : Label S) (eta : ℕ) (d : Option ℕ) → problem.eta step l.progress ≡ Some eta → l.depart ≡ d → not (is_long limit d eta) ≡ false → IsTooLong problem limit step l
+too_long : {S : Type 0} (problem : Problem S) (limit : Option ℕ) (step : ℕ) (l : Label S) (eta : ℕ) (d : Option ℕ) → problem.bound step l ≡ Some eta → l.depart ≡ d → not (is_long limit d eta) ≡ false → IsTooLong problem limit step l
 too_long problem None step l eta d e f u = absurd (let z : true ≡ false = u in cc)
 too_long problem (Some b) step l eta None e f u = absurd (let z : true ≡ false = u in cc)
-too_long problem (Some b) step l eta (Some d) e f u = record { depart = d; eta = eta; departed = f; ends = e; long = (let z : not (nat_le b (eta - d)) ≡ false = u in let r : b ≤ eta - d = grind (arith, nat_tests) in r) }
+too_long problem (Some b) step l eta (Some d) e f u = record { depart = d; bound = eta; departed = f; ends = e; long = (let z : not (nat_le b (eta - d)) ≡ false = u in let r : b ≤ eta - d = grind (arith, nat_tests) in r) }
 
-let_off_by : {S : Type 0} (problem : Problem S) (limit : Option ℕ) (step : ℕ) (l : Label S) (o : Option ℕ) → problem.eta step l.progress ≡ o → is_useful limit l.depart o ≡ false → IsLetOff problem limit step l
-let_off_by problem limit step l None e u = inl e
-let_off_by problem limit step l (Some eta) e u = inr (too_long problem limit step l eta l.depart e refl u)
+pruned_by : {S : Type 0} (problem : Problem S) (limit : Option ℕ) (step : ℕ) (l : Label S) (o : Option ℕ) → problem.bound step l ≡ o → is_useful limit l.depart o ≡ false → IsPruned problem limit step l
+pruned_by problem limit step l None e u = inl e
+pruned_by problem limit step l (Some eta) e u = inr (too_long problem limit step l eta l.depart e refl u)
 
-pub useless_let_off : {S : Type 0} (problem : Problem S) (limit : Option ℕ) (step : ℕ) (l : Label S) → is_useful limit l.depart (problem.eta step l.progress) ≡ false → IsLetOff problem limit step l
-useless_let_off problem limit step l u = let_off_by problem limit step l (problem.eta step l.progress) refl u
+pub useless_pruned : {S : Type 0} (problem : Problem S) (limit : Option ℕ) (step : ℕ) (l : Label S) → is_useful limit l.depart (problem.bound step l) ≡ false → IsPruned problem limit step l
+useless_pruned problem limit step l u = pruned_by problem limit step l (problem.bound step l) refl u
 
 -- ---- the successors of one label
 
 pub gathers_none : {S : Type 0} (problem : Problem S) (limit : Option ℕ) (step place : ℕ) (ls : List (Kept S)) → Gathers problem limit step place [] ls ls
 gathers_none problem limit step place ls = record { only = λ k o. inl o; keeps = λ k o. o; all = λ g o. absurd o }
 
-pub gathers_let_off : {S : Type 0} (problem : Problem S) (limit : Option ℕ) (step place : ℕ) (g : Grown S) (ls : List (Kept S)) → IsLetOff problem limit step g.label → Gathers problem limit step place (g ∷ []) ls ls
-gathers_let_off problem limit step place g ls off = record {
+pub gathers_pruned : {S : Type 0} (problem : Problem S) (limit : Option ℕ) (step place : ℕ) (g : Grown S) (ls : List (Kept S)) → IsPruned problem limit step g.label → Gathers problem limit step place (g ∷ []) ls ls
+gathers_pruned problem limit step place g ls off = record {
   only = λ k o. inl o;
   keeps = λ k o. o;
-  all = λ m o. elim o [ inl e ↦ inl (subst (λ n. IsLetOff problem limit step n.label) e off) | inr z ↦ absurd z ];
+  all = λ m o. elim o [ inl e ↦ inl (subst (λ n. IsPruned problem limit step n.label) e off) | inr z ↦ absurd z ];
 }
 
-pub gathers_pushed : {S : Type 0} (problem : Problem S) (limit : Option ℕ) (step place : ℕ) (g : Grown S) (ls : List (Kept S)) → is_useful limit g.label.depart (problem.eta step g.label.progress) ≡ true →
+pub gathers_pushed : {S : Type 0} (problem : Problem S) (limit : Option ℕ) (step place : ℕ) (g : Grown S) (ls : List (Kept S)) → is_useful limit g.label.depart (problem.bound step g.label) ≡ true →
     Gathers problem limit step place (g ∷ []) ls (ls ++ (record { label = g.label; parent = place; act = g.act; mark = g.mark }) ∷ [])
 gathers_pushed {S} problem limit step place g ls u =
     let k : Kept S = record { label = g.label; parent = place; act = g.act; mark = g.mark } in
@@ -73,7 +74,7 @@ gathers_pushed {S} problem limit step place g ls u =
       only = λ m o. elim (one_of-append ls (k ∷ []) m o) [
         | inl a ↦ inl a
         | inr q ↦ elim q [
-          | inl f ↦ inr (subst (λ j. IsGathered problem limit step place (g ∷ []) j) f (record { parent = refl; grown = inl refl; has_eta = useful_has_eta problem limit step g.label u; beats = useful_beats problem limit step g.label u }))
+          | inl f ↦ inr (subst (λ j. IsGathered problem limit step place (g ∷ []) j) f (record { parent = refl; grown = inl refl; has_bound = useful_has_bound problem limit step g.label u; beats = useful_beats problem limit step g.label u }))
           | inr z ↦ absurd z
         ]
       ];
@@ -93,9 +94,9 @@ gathers_on problem limit step place gs hs a b c f g = record {
   only = λ k o. elim (g.only k o) [
     | inl i ↦ elim (f.only k i) [
       | inl j ↦ inl j
-      | inr j ↦ inr (record { parent = j.parent; grown = one_of-append_left gs hs (record { label = k.label; act = k.act; mark = k.mark }) j.grown; has_eta = j.has_eta; beats = j.beats })
+      | inr j ↦ inr (record { parent = j.parent; grown = one_of-append_left gs hs (record { label = k.label; act = k.act; mark = k.mark }) j.grown; has_bound = j.has_bound; beats = j.beats })
     ]
-    | inr j ↦ inr (record { parent = j.parent; grown = one_of-append_right gs hs (record { label = k.label; act = k.act; mark = k.mark }) j.grown; has_eta = j.has_eta; beats = j.beats })
+    | inr j ↦ inr (record { parent = j.parent; grown = one_of-append_right gs hs (record { label = k.label; act = k.act; mark = k.mark }) j.grown; has_bound = j.has_bound; beats = j.beats })
   ];
   keeps = λ k o. g.keeps k (f.keeps k o);
   all = λ m o. elim (one_of-append gs hs m o) [
@@ -110,7 +111,7 @@ gathers_on problem limit step place gs hs a b c f g = record {
 pub record IsGathering {S : Type 0} (problem : Problem S) (limit : Option ℕ) (step : ℕ) (layer through list : List (Kept S)) : Type 0 where
   pub grew : (k : Kept S) → IsOneOf list k → GrewFrom problem step layer k
   pub beats : (k : Kept S) → IsOneOf list k → IsTooLong problem limit (step + 1) k.label → ⊥
-  pub all : (k : Kept S) → IsOneOf through k → (g : Grown S) → IsOneOf (successors_of problem step k.label) g → IsLetOff problem limit (step + 1) g.label ⊎ IsOneOf (labels_of list) g.label
+  pub all : (k : Kept S) → IsOneOf through k → (g : Grown S) → IsOneOf (successors_of problem step k.label) g → IsPruned problem limit (step + 1) g.label ⊎ IsOneOf (labels_of list) g.label
 
 pub gathering_first : {S : Type 0} (problem : Problem S) (limit : Option ℕ) (step : ℕ) (layer : List (Kept S)) → IsGathering problem limit step layer [] []
 gathering_first problem limit step layer = record { grew = λ k o. absurd o; beats = λ k o. absurd o; all = λ k o. absurd o }
@@ -121,7 +122,7 @@ grew_from problem limit step layer i x k lt e h = record {
   parent = x;
   there = ap (slice_get layer) h.parent ∙ slice_get_read layer (length layer) i x refl lt e;
   grown = h.grown;
-  has_eta = h.has_eta;
+  has_bound = h.has_bound;
 }
 
 pub gathering_more : {S : Type 0} (problem : Problem S) (limit : Option ℕ) (step : ℕ) (layer list new : List (Kept S)) (i : ℕ) (x : Kept S) → i < length layer → x ≡ get_or layer i x →
@@ -180,37 +181,47 @@ labels_small is_state goal step list few lt h k o =
 
 -- ---- the labels of the roots
 
-pub record IsRooting {S : Type 0} (roots through : List (Root S)) (list : List (Kept S)) : Type 0 where
+-- the labels of the first n roots
+pub record IsRooting {S : Type 0} (roots : List (Root S)) (n : ℕ) (list : List (Kept S)) : Type 0 where
   pub first : (k : Kept S) → IsOneOf list k → IsFirst roots k
-  pub all : (root : Root S) → IsOneOf through root → IsOneOf (labels_of list) (root_label root.state)
+  pub below : (k : Kept S) → IsOneOf list k → k.parent < n
+  pub rising : IsStrictlyIncreasing (parents_of list)
+  pub all : (i : ℕ) → i < n → IsOneOf (parents_of list) i
 
-pub rooting_first : {S : Type 0} (roots : List (Root S)) → IsRooting roots [] []
-rooting_first roots = record { first = λ k o. absurd o; all = λ r o. absurd o }
+pub rooting_first : {S : Type 0} (roots : List (Root S)) → IsRooting roots 0 []
+rooting_first roots = record { first = λ k o. absurd o; below = λ k o. absurd o; rising = λ k lt. absurd (omega arith); all = λ i lt. absurd (omega arith) }
 
 pub rooting_more : {S : Type 0} (roots : List (Root S)) (list : List (Kept S)) (i : ℕ) (x : Root S) (s : S) (k : Kept S) → i < length roots → x ≡ get_or roots i x → s ≡ x.state →
-    k ≡ record { label = root_label s; parent = i; act = Off; mark = None } → IsRooting roots (take i roots) list → IsRooting roots (take (i + 1) roots) (list ++ k ∷ [])
+    k ≡ record { label = root_label s; parent = i; act = Off; mark = None } → IsRooting roots i list → IsRooting roots (i + 1) (list ++ k ∷ [])
 rooting_more {S} roots list i x s k lt e same is h =
-    let more : take (i + 1) roots ≡ take i roots ++ x ∷ [] = take_more roots i x lt ∙ ap (λ y. take i roots ++ y ∷ []) (sym e) in
-    let label : k.label ≡ root_label x.state = ap (λ j. j.label) is ∙ ap root_label same in
+    let place : k.parent ≡ i = ap (λ j. j.parent) is in
     record {
       first = λ m o. elim (one_of-append list (k ∷ []) m o) [
         | inl a ↦ h.first m a
         | inr q ↦ elim q [
-          | inl f ↦ subst (λ j. IsFirst roots j) f (record { root = x; there = ap (λ j. slice_get roots j.parent) is ∙ slice_get_read roots (length roots) i x refl lt e; label = label })
+          | inl f ↦ subst (λ j. IsFirst roots j) f (record {
+            root = x;
+            there = ap (slice_get roots) place ∙ slice_get_read roots (length roots) i x refl lt e;
+            label = ap (λ j. j.label) is ∙ ap root_label same;
+            act = ap (λ j. j.act) is;
+            mark = ap (λ j. j.mark) is;
+          })
           | inr z ↦ absurd z
         ]
       ];
-      all = λ r o. elim (one_of-append (take i roots) (x ∷ []) r (subst (λ ys. IsOneOf ys r) more o)) [
-        | inl a ↦ labels_keep list (list ++ k ∷ []) (λ j p. one_of-append_left list (k ∷ []) j p) (root_label r.state) (h.all r a)
-        | inr q ↦ elim q [
-          | inl f ↦ subst (λ j. IsOneOf (labels_of (list ++ k ∷ [])) (root_label j.state)) f (subst (IsOneOf (labels_of (list ++ k ∷ []))) label (one_of_labels (list ++ k ∷ []) k (one_of-append_right list (k ∷ []) k (inl refl))))
-          | inr z ↦ absurd z
-        ]
+      below = λ m o. elim (one_of-append list (k ∷ []) m o) [
+        | inl a ↦ (let b = h.below m a in omega arith)
+        | inr q ↦ elim q [ inl f ↦ subst (λ j. j.parent < i + 1) f (omega arith) | inr z ↦ absurd z ]
+      ];
+      rising = parents_push list k h.rising (λ m o. (let b = h.below m o in omega arith));
+      all = λ n less. elim (cases_lt n i) [
+        | inl a ↦ (let q = parent_kept list n (h.all n a) in subst (IsOneOf (parents_of (list ++ k ∷ []))) q.2 (one_of_parents (list ++ k ∷ []) q.0 (one_of-append_left list (k ∷ []) q.0 q.1)))
+        | inr b ↦ (let same : k.parent ≡ n = omega arith in subst (IsOneOf (parents_of (list ++ k ∷ []))) same (one_of_parents (list ++ k ∷ []) k (one_of-append_right list (k ∷ []) k (inl refl))))
       ];
     }
 
-pub rooted_whole : {S : Type 0} (roots : List (Root S)) (list : List (Kept S)) (i : ℕ) → length roots ≤ i → IsRooting roots (take i roots) list → AreFirst roots list
-rooted_whole roots list i le h = record { first = h.first; all = λ r o. h.all r (subst (λ ys. IsOneOf ys r) (sym (take_all i roots le)) o) }
+pub rooted_whole : {S : Type 0} (roots : List (Root S)) (list : List (Kept S)) (i : ℕ) → length roots ≤ i → IsRooting roots i list → AreFirst roots list
+rooted_whole roots list i le h = record { first = h.first; rising = h.rising; all = λ n lt. h.all n (omega arith) }
 
 later_none : (a b : Option ℕ) → a ≡ None → later a b ≡ true
 later_none None b e = refl

@@ -5,14 +5,14 @@ use Rattle.std.specs.Option.{option_to_list}
 use Rattle.std.proofs.lemmas.List.{take_more, take_all}
 use Rattle.duty_core.specs.declared.activity.Activity.{Activity}
 use Rattle.rule_core.specs.Reach.{IsOneOf}
-use Rattle.rule_core.specs.OneOf.{one_of-append, one_of-append_left, one_of-append_right}
+use Rattle.rule_core.specs.Laws.OneOf.{one_of-append, one_of-append_left, one_of-append_right}
 use Rattle.tour_model.specs.declared.label.Label.{Label}
 use Rattle.cert_text.specs.declared.grown.Grown.{Grown}
-use Rattle.cert_text.specs.Problem.{Problem, root_label, successors_of, HasEta}
+use Rattle.cert_text.specs.Problem.{Problem, root_label, successors_of, HasBound}
 use Rattle.cert_text.specs.Cover.{IsLabelAt, taken}
 use Rattle.cert_text.specs.Continuation.{takes}
-use Rattle.cert_text.specs.ProblemLaws.{IsProblem}
-use Rattle.cert_text.specs.CoverLaws.{departed_from}
+use Rattle.cert_text.specs.Laws.ProblemLaws.{IsProblem}
+use Rattle.cert_text.specs.Laws.CoverLaws.{departed_from}
 use Rattle.label_search.specs.declared.guess.Ranked.{Ranked}
 use Rattle.label_search.specs.Searching.{IsSolved, IsLimit}
 use Rattle.label_search.specs.Ways.{IsWay, IsReached, AreReached, AreRankedReached, IsGuess, IsLessOf, IsLeastOf, ArePartsOf}
@@ -30,16 +30,16 @@ root_reached problem is_state allowed starts s start there = record {
 
 -- a successor that can be finished is reached
 pub grown_reached : {S : Type 0} (problem : Problem S) (is_state : S → ℕ → Type 0) (allowed : Activity → Bool) (starts : S → Type 0) → IsProblem problem is_state allowed → ((s : S) → starts s → is_state s 0) →
-    (step : ℕ) (l : Label S) (g : Grown S) → IsReached problem is_state allowed starts step l → IsOneOf (successors_of problem step l) g → HasEta problem (step + 1) g.label → IsLabelAt is_state problem.goal (step + 1) g.label →
+    (step : ℕ) (l : Label S) (g : Grown S) → IsReached problem is_state allowed starts step l → IsOneOf (successors_of problem step l) g → HasBound problem (step + 1) g.label → IsLabelAt is_state problem.goal (step + 1) g.label →
     IsReached problem is_state allowed starts (step + 1) g.label
-grown_reached problem is_state allowed starts laws states step l g r o eta at =
+grown_reached problem is_state allowed starts laws states step l g r o bound at =
     let one : step + 1 ≡ suc step = add-one step in
     record {
       start = r.start;
       acts = r.acts ++ g.act ∷ [];
       marks = r.marks ++ option_to_list g.mark;
       way = subst (λ n. IsWay problem allowed starts r.start n (r.acts ++ g.act ∷ []) (r.marks ++ option_to_list g.mark) g.label) (sym one)
-          (way_more problem is_state allowed starts laws states r.start step r.acts r.marks l g r.way o (subst (λ n. HasEta problem n g.label) one eta));
+          (way_more problem is_state allowed starts laws states r.start step r.acts r.marks l g r.way o (subst (λ n. HasBound problem n g.label) one bound));
       at = at;
     }
 

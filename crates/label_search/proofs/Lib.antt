@@ -1,5 +1,6 @@
 pub mod Places
 pub mod OrderLaws
+pub mod TurnLaws
 pub mod BestLaws
 pub mod GatherLaws
 pub mod FillLaws

@@ -4,13 +4,13 @@ use Rattle.std.specs.Prelude.{Option, None, Some, slice_get}
 use Rattle.std.specs.List.Sorted.{IsPermutation, IsNonDecreasingBy}
 use Rattle.std.proofs.lemmas.Bool.Decides.{nat_tests}
 use Rattle.rule_core.specs.Reach.{IsOneOf}
-use Rattle.rule_core.specs.OneOf.{one_of-append, one_of-get_or}
+use Rattle.rule_core.specs.Laws.OneOf.{one_of-append, one_of-get_or}
 use Rattle.tour_model.specs.declared.limits.TheConstants.{STEP_LIMIT}
 use Rattle.label_state.specs.declared.kept.Kept.{Kept}
 use Rattle.cert_text.specs.Problem.{later}
 use Rattle.label_search.specs.Sound.{StandsBefore, AreOrdered}
 use Rattle.label_search.specs.Searching.{AreSmall, rank_of, depart_rank, progress_rank}
-use Rattle.label_state.specs.LayerLaws.{place_of_one}
+use Rattle.label_state.specs.Laws.LayerLaws.{place_of_one}
 use Rattle.label_search.proofs.Places.{one_of_place, get_of, place_within, one_of_permuted}
 
 -- neighbours that tie by n rise by m, and so do all that tie
@@ -62,7 +62,7 @@ put_ordered old new small same up ties = ordered_from new (λ i j a b lt p q.
     (ties_gap progress_rank depart_rank new up ties i (j - i) a (omega arith)
     (ap depart_rank ga ∙ (e ∙ (sym (ap depart_rank gb) ∙ ap (λ t. depart_rank (get_or new t a)) (sym gap)))))))))
 
--- a sublist in order keeps it when one that stands behind all comes to its end
+-- a sublist in order keeps it when one that stands after all comes to its end
 pub ordered_push : {S : Type 0} (ks : List (Kept S)) (k : Kept S) → AreOrdered ks → ((m : Kept S) → IsOneOf ks m → StandsBefore m.label k.label) → AreOrdered (ks ++ k ∷ [])
 ordered_push [] k h f = (λ m o. absurd o, tt)
 ordered_push (x ∷ ks) k h f = (
@@ -73,7 +73,7 @@ ordered_push (x ∷ ks) k h f = (
   ordered_push ks k h.1 (λ m o. f m (inr o)),
 )
 
--- what stands at a place of an ordered list stands behind all before it
+-- what stands at a place of an ordered list stands after all before it
 pub ordered_at : {S : Type 0} (ks : List (Kept S)) (i : ℕ) (k m : Kept S) → AreOrdered ks → i < length ks → k ≡ get_or ks i k → IsOneOf (take i ks) m → StandsBefore m.label k.label
 ordered_at [] i k m h lt e o = absurd (omega arith)
 ordered_at (x ∷ ks) zero k m h lt e o = absurd o

@@ -10,18 +10,20 @@ use Rattle.tour_model.specs.declared.label.Label.{Label}
 use Rattle.tour_model.specs.Layer.{layer_at}
 use Rattle.cert_text.specs.declared.grown.Grown.{Grown}
 use Rattle.cert_text.specs.Problem.{Problem, root_label, successors_of}
-use Rattle.cert_text.specs.Cover.{IsCovered, NoneIsBetter, IsAtLeast, taken, IsTooLong, IsLetOff, IsLabelAt, IsCoverList}
-use Rattle.cert_text.specs.CoverLaws.{at_least_more}
+use Rattle.cert_text.specs.Cover.{IsCovered, NoneIsBetter, IsAtLeast, taken, IsTooLong, IsPruned, IsLabelAt, IsCoverList}
+use Rattle.cert_text.specs.Laws.CoverLaws.{at_least_more}
 use Rattle.label_state.specs.declared.kept.Kept.{Kept}
 use Rattle.label_state.specs.declared.kept.Place.{Place}
 use Rattle.label_state.specs.Layers.{labels_of, label_layers, label_count}
-use Rattle.label_state.specs.LayerLaws.{layer_old, layer_new, layer_past, count_pushed, layer_labels, label_kept}
+use Rattle.label_state.specs.Laws.LayerLaws.{layer_old, layer_new, layer_past, count_pushed, layer_labels, label_kept}
 use Rattle.label_search.specs.declared.best.Best.{Best}
-use Rattle.label_search.specs.Sound.{GrewFrom, AreOrdered, IsSound}
+use Rattle.label_search.specs.Sound.{IsFirstLayer, GrewFrom, AreOrdered, IsSound}
 use Rattle.label_search.proofs.FillLaws.{filled_some}
-use Rattle.label_search.specs.Searching.{IsRootState, AreLabelsAt, AreGathered, AreFirst, IsFilled, AddsLayer, IsFinishedAt, IsBestOf}
+use Rattle.label_search.proofs.TurnLaws.{label_of_root, first_layer}
+use Rattle.label_search.specs.Searching.{IsRootState, AreLabelsAt, AreGathered, AreFirst, IsFilled, AddsLayer, IsBestOf}
+use Rattle.label_search.specs.Laws.Searching.{IsFinishedAt}
 
--- ---- layers, one behind the others
+-- ---- layers, one after the others
 
 -- what holds of each layer, the new one among them
 each_layer : {X : Type 0} (layers : List (List X)) (next : List X) (P : ℕ → List X → Type 0) → ((s : ℕ) → s < length layers → P s (layer_at layers s)) → P (length layers) next → ((s : ℕ) → P s []) →
@@ -34,7 +36,7 @@ each_layer layers next P old new past s = elim (cases_lt s (length layers)) [
   ]
 ]
 
--- what holds of two layers, one behind the other
+-- what holds of two layers, one after the other
 new_pair : {X : Type 0} (layers : List (List X)) (next : List X) (P : List X → List X → Type 0) (s : ℕ) → length layers ≡ s + 1 → P (layer_at layers s) next →
     P (layer_at (layers ++ next ∷ []) s) (layer_at (layers ++ next ∷ []) (s + 1))
 new_pair layers next P s e h =
@@ -62,16 +64,16 @@ none_by ys n b e t f = let g : (n == 0) ≡ true = sym t ∙ f in let h : n ≡ 
 
 -- ---- limits that fall
 
-long_less : {S : Type 0} (problem : Problem S) (a b : Option ℕ) (step : ℕ) (l : Label S) → ((n : ℕ) → IsAtLeast a n → IsAtLeast b n) → IsLetOff problem a step l → IsLetOff problem b step l
+long_less : {S : Type 0} (problem : Problem S) (a b : Option ℕ) (step : ℕ) (l : Label S) → ((n : ℕ) → IsAtLeast a n → IsAtLeast b n) → IsPruned problem a step l → IsPruned problem b step l
 long_less problem a b step l less h = elim h [
   | inl e ↦ inl e
-  | inr t ↦ inr (record { depart = t.depart; eta = t.eta; departed = t.departed; ends = t.ends; long = less (t.eta - t.depart) t.long })
+  | inr t ↦ inr (record { depart = t.depart; bound = t.bound; departed = t.departed; ends = t.ends; long = less (t.bound - t.depart) t.long })
 ]
 
--- Each successor of a layer's labels is let off, or has a better label in the next.
+-- Each successor of a layer's labels is pruned, or has a better label in the next.
 abbrev pub AreAnswered : {S : Type 0} → Problem S → Option ℕ → ℕ → List (Kept S) → List (Kept S) → Type 0
 AreAnswered {S} problem limit step layer next =
-    (k : Kept S) → IsOneOf layer k → (g : Grown S) → IsOneOf (successors_of problem step k.label) g → IsLetOff problem limit (step + 1) g.label ⊎ IsCovered problem (step + 1) (labels_of next) g.label
+    (k : Kept S) → IsOneOf layer k → (g : Grown S) → IsOneOf (successors_of problem step k.label) g → IsPruned problem limit (step + 1) g.label ⊎ IsCovered problem (step + 1) (labels_of next) g.label
 
 answered_less : {S : Type 0} (problem : Problem S) (a b : Option ℕ) (step : ℕ) (layer next : List (Kept S)) → ((n : ℕ) → IsAtLeast a n → IsAtLeast b n) → AreAnswered problem a step layer next → AreAnswered problem b step layer next
 answered_less problem a b step layer next less h k o g q = elim (h k o g q) [ inl t ↦ inl (long_less problem a b (step + 1) g.label less t) | inr c ↦ inr c ]
@@ -84,6 +86,7 @@ pub record IsSearching {S : Type 0} (problem : Problem S) (roots : List (Root S)
   pub steps : step ≤ label_count layers
   pub within : label_count layers ≤ budget
   pub sound : IsSound problem roots layers
+  pub rooted : IsFirstLayer problem roots budget (layer_at layers 0)
   pub labels : (s : ℕ) → AreLabelsAt is_state problem.goal s (layer_at layers s)
   pub started : (0 < step) ⊎ (label_count layers < budget) → (s : S) → IsRootState roots s → IsCovered problem 0 (labels_of (layer_at layers 0)) (root_label s)
   pub finished : (s : ℕ) (k : Kept S) → IsOneOf (layer_at layers s) k → k.label.progress ≡ problem.goal → IsAtLeast best.limit (taken s k.label)
@@ -113,7 +116,7 @@ sound_more {S} problem roots layers next list step room limit e h g f finished =
             each_layer layers next (λ n ys. s < n → IsOneOf ys k → IsTooLong problem (Some (taken s x.label)) n k.label → ⊥)
             (λ n l less o too. h.beats s n x k less here done o too)
             (λ less o too. subst (λ n. IsTooLong problem limit n k.label → ⊥) (sym e) (g.beats k (f.only k o))
-            (record { depart = too.depart; eta = too.eta; departed = too.departed; ends = too.ends; long = at_least_more limit (taken s x.label) (too.eta - too.depart) too.long (finished s x here done) }))
+            (record { depart = too.depart; bound = too.bound; departed = too.departed; ends = too.ends; long = at_least_more limit (taken s x.label) (too.bound - too.depart) too.long (finished s x here done) }))
             (λ n less o too. absurd o) after lt ok t)
         | inr a ↦ (let less = lt in absurd (subst (λ ys. IsOneOf ys k) (layer_past (layers ++ next ∷ []) after (let d = length-append layers (next ∷ []) in omega arith)) ok))
       ];
@@ -136,13 +139,14 @@ searching_more {S} problem roots is_state budget step first best found layers ne
     let at : length layers ≡ step + 1 = h.depth in
     let count : label_count (layers ++ next ∷ []) ≡ label_count layers + length next = count_pushed layers next in
     let more = filled_some problem (length layers) (budget - label_count layers) list next f (omega arith) some in
-    let best_new : IsBestOf problem.goal (step + 1) next best found = subst (λ ys. IsBestOf problem.goal (step + 1) ys best found) (ap (λ ls. layer_at ls (step + 1)) adds.behind ∙ layer_new layers next (step + 1) at) b in
-    subst (IsSearching problem roots is_state budget (step + 1) first found) (sym adds.behind)
+    let best_new : IsBestOf problem.goal (step + 1) next best found = subst (λ ys. IsBestOf problem.goal (step + 1) ys best found) (ap (λ ls. layer_at ls (step + 1)) adds.thereafter ∙ layer_new layers next (step + 1) at) b in
+    subst (IsSearching problem roots is_state budget (step + 1) first found) (sym adds.thereafter)
     (record {
       depth = (let e = length-append layers (next ∷ []) in omega arith);
       steps = omega arith;
       within = omega arith;
       sound = sound_more problem roots layers next list step (budget - label_count layers) best.limit at h.sound g f h.finished;
+      rooted = subst (IsFirstLayer problem roots budget) (sym (layer_old layers next 0 (omega arith))) h.rooted;
       labels = each_layer layers next (λ s ys. AreLabelsAt is_state problem.goal s ys) (λ s l. h.labels s) (λ k o. subst (λ n. IsLabelAt is_state problem.goal n k.label) (sym at) (labels k (f.only k o))) (λ s k o. absurd o);
       started = λ w s r. subst (λ ys. IsCovered problem 0 (labels_of ys) (root_label s)) (sym (layer_old layers next 0 (omega arith))) (h.started (inr lt) s r);
       finished = each_layer layers next (λ s ys. (k : Kept S) → IsOneOf ys k → k.label.progress ≡ problem.goal → IsAtLeast found.limit (taken s k.label))
@@ -198,7 +202,7 @@ searching_first {S} problem roots is_state budget best list layers goal none a l
     let f = adds.filled in
     let bounded = f.bounded in
     let count : label_count ([] ++ first ∷ []) ≡ 0 + length first = count_pushed [] first in
-    subst (IsSearching problem roots is_state budget 0 best.limit best) (sym adds.behind)
+    subst (IsSearching problem roots is_state budget 0 best.limit best) (sym adds.thereafter)
     (record {
       depth = omega arith;
       steps = omega arith;
@@ -210,10 +214,11 @@ searching_first {S} problem roots is_state budget best list layers goal none a l
         beats = λ s after x k lt ox done ok t. absurd (subst (λ ys. IsOneOf ys k) (layer_past ([] ++ first ∷ []) after (omega arith)) ok);
         ordered = λ s. subst AreOrdered (sym (only_next first s)) tt;
       };
+      rooted = first_layer problem roots budget (budget - label_count {X = Kept S} []) list first (omega arith) a f;
       labels = only_layer first (λ s ys. AreLabelsAt is_state problem.goal s ys) (λ k o. labels k (f.only k o)) (λ s k o. absurd o);
       started = λ w s r. elim w [
         | inl z ↦ absurd (omega arith)
-        | inr small ↦ (let q = label_kept list (root_label r.0.state) (a.all r.0 r.1) in
+        | inr small ↦ (let q = label_of_root roots list a r.0 r.1 in
             subst (λ u. IsCovered problem 0 (labels_of first) (root_label u)) r.2 (subst (IsCovered problem 0 (labels_of first)) q.2 (f.covers (let z : label_count ([] ++ first ∷ []) < budget = small in omega arith) q.0 q.1)))
       ];
       finished = only_layer first (λ s ys. (k : Kept S) → IsOneOf ys k → k.label.progress ≡ problem.goal → IsAtLeast best.limit (taken s k.label))
@@ -239,13 +244,13 @@ searched_covers {S} problem roots is_state budget step first best layers list h 
       let depth = h.depth in
       let q = label_kept (layer_at layers s) l (subst (λ ls. IsOneOf ls l) (layer_labels layers s) o) in
       let p2 = subst (λ j. IsOneOf (successors_of problem s j) m) (sym q.2) p in
-      subst (λ ls. IsLetOff problem best.limit (s + 1) m.label ⊎ IsCovered problem (s + 1) ls m.label) (sym (layer_labels layers (s + 1)))
+      subst (λ ls. IsPruned problem best.limit (s + 1) m.label ⊎ IsCovered problem (s + 1) ls m.label) (sym (layer_labels layers (s + 1)))
       (elim (cases_lt s step) [
         | inl a ↦ h.answered s a (inr lt) q.0 q.1 m p2
         | inr a ↦ elim (cases_lt step s) [
           | inl b ↦ absurd (subst (λ ys. IsOneOf ys q.0) (layer_past layers s (omega arith)) q.1)
           | inr b ↦ (let e : step ≡ s = omega arith in
-              elim (subst (λ n. (k : Kept S) → IsOneOf (layer_at layers n) k → (j : Grown S) → IsOneOf (successors_of problem n k.label) j → IsLetOff problem best.limit (n + 1) j.label ⊎ IsOneOf (labels_of list) j.label) e g.all q.0 q.1 m p2) [
+              elim (subst (λ n. (k : Kept S) → IsOneOf (layer_at layers n) k → (j : Grown S) → IsOneOf (successors_of problem n k.label) j → IsPruned problem best.limit (n + 1) j.label ⊎ IsOneOf (labels_of list) j.label) e g.all q.0 q.1 m p2) [
                 | inl off ↦ inl off
                 | inr l2 ↦ absurd (subst (λ ys. IsOneOf (labels_of ys) m.label) none l2)
               ])

@@ -1,4 +1,4 @@
--- What stands behind a label of sound layers: its path.
+-- What stands after a label of sound layers: its path.
 use Rattle.std.proofs.Common.{◌≡◌, ℕ, ◌+◌, ◌*◌, ◌≤◌, zero, suc, Bool, true, false, List, [], ◌∷◌, ◌++◌, length, refl, sym, ◌∙◌, ap, subst, arith, add-one, add-zero, length-append, append-nil, inl, inr}
 use Rattle.std.specs.Prelude.{None, Some, slice_get}
 use Rattle.std.specs.Option.{option_to_list}
@@ -7,20 +7,20 @@ use Rattle.duty_core.specs.declared.activity.Activity.TheVariants.{Drive, Serve,
 use Rattle.duty_core.specs.declared.mark.Mark.{Mark}
 use Rattle.rule_core.specs.declared.roots.Root.{Root}
 use Rattle.rule_core.specs.Reach.{IsOneOf, Reaches}
-use Rattle.rule_core.specs.ReachLaws.{reaches-append, reached_state}
+use Rattle.rule_core.specs.Laws.ReachLaws.{reaches-append, reached_state}
 use Rattle.tour_model.specs.declared.label.Label.{Label}
 use Rattle.tour_model.specs.Layer.{layer_at}
 use Rattle.tour_model.specs.Way.{done, done_after}
 use Rattle.tour_model.specs.Schedule.{depart_from}
 use Rattle.cert_text.specs.declared.grown.Grown.{Grown}
-use Rattle.cert_text.specs.Problem.{Problem, root_label, departed, successors_of, is_better, HasEta}
+use Rattle.cert_text.specs.Problem.{Problem, root_label, departed, successors_of, is_better, HasBound}
 use Rattle.cert_text.specs.Cover.{NoneIsBetter}
 use Rattle.cert_text.specs.Continuation.{IsAllowedFrom}
-use Rattle.cert_text.specs.ProblemLaws.{IsProblem}
-use Rattle.cert_text.specs.BetterLaws.{grown_from, better_itself}
+use Rattle.cert_text.specs.Laws.ProblemLaws.{IsProblem}
+use Rattle.cert_text.specs.Laws.BetterLaws.{grown_from, better_itself}
 use Rattle.label_state.specs.declared.kept.Kept.{Kept}
 use Rattle.label_state.specs.Layers.{labels_of, label_layers, label_count}
-use Rattle.label_state.specs.LayerLaws.{layer_labels, label_kept, place_of_one}
+use Rattle.label_state.specs.Laws.LayerLaws.{layer_labels, label_kept, place_of_one}
 use Rattle.label_state.specs.Path.{parent_of, acts_of, marks_of, kept_at, root_of, path_of, way_marks}
 use Rattle.label_search.specs.Sound.{IsSound, IsReachable, AreDistinct, HasLabels}
 use Rattle.label_search.specs.Ways.{IsWay}
@@ -66,9 +66,9 @@ way_state problem is_state allowed starts laws roots root step xs marks l w =
     (reached_state 1 is_state problem.nexts laws.next_is xs root 0 marks l.state (roots root w.start) w.path)
 
 pub way_more : {S : Type 0} (problem : Problem S) (is_state : S → ℕ → Type 0) (allowed : Activity → Bool) (starts : S → Type 0) → IsProblem problem is_state allowed → ((s : S) → starts s → is_state s 0) →
-    (root : S) (step : ℕ) (xs : List Activity) (marks : List Mark) (l : Label S) (g : Grown S) → IsWay problem allowed starts root step xs marks l → IsOneOf (successors_of problem step l) g → HasEta problem (suc step) g.label →
+    (root : S) (step : ℕ) (xs : List Activity) (marks : List Mark) (l : Label S) (g : Grown S) → IsWay problem allowed starts root step xs marks l → IsOneOf (successors_of problem step l) g → HasBound problem (suc step) g.label →
     IsWay problem allowed starts root (suc step) (xs ++ g.act ∷ []) (marks ++ option_to_list g.mark) g.label
-way_more problem is_state allowed starts laws roots root step xs marks l g w o eta =
+way_more problem is_state allowed starts laws roots root step xs marks l g w o bound =
     let q = grown_from problem step l g o in
     let there = way_state problem is_state allowed starts laws roots root step xs marks l w in
     let ok = tried_allowed problem is_state allowed laws l.state step q.by there q.tried in
@@ -87,7 +87,7 @@ way_more problem is_state allowed starts laws roots root step xs marks l g w o e
           (q.next, subst (λ n. IsOneOf (problem.nexts l.state n q.by) q.next) unit q.follows, [], sym (append-nil (option_to_list q.next.mark)), (refl, refl)));
       progress = sym (ap (λ r. r.label.progress) q.is) ∙ (ap (λ p. done p q.by) w.progress ∙ sym (done_more 0 xs q.by));
       depart = sym (ap (λ r. r.label.depart) q.is) ∙ (ap (λ d. departed d q.by step) w.depart ∙ (ap (λ n. departed (depart_from 0 xs) q.by n) (sym at) ∙ sym (depart-snoc 0 xs q.by)));
-      reachable = (l, w.reachable, g, o, refl, eta);
+      reachable = (l, w.reachable, g, o, refl, bound);
     }))
 
 pub root_way : {S : Type 0} (problem : Problem S) (allowed : Activity → Bool) (starts : S → Type 0) (s : S) (l : Label S) → starts s → root_label s ≡ l → IsWay problem allowed starts s 0 [] [] l
@@ -101,7 +101,7 @@ root_way problem allowed starts s l start e = record {
   reachable = (s, start, e);
 }
 
--- Behind a label of sound layers stands a root, by its place, and a way from it.
+-- After a label of sound layers stands a root, by its place, and a way from it.
 pub record IsGrownFromRoot {S : Type 0} (problem : Problem S) (allowed : Activity → Bool) (starts : S → Type 0) (roots : List (Root S)) (place step : ℕ) (xs : List Activity) (marks : List Mark) (l : Label S) : Type 0 where
   pub root : Root S
   pub there : slice_get roots place ≡ Some root
@@ -130,7 +130,7 @@ sound_way problem is_state allowed starts roots layers laws states begins sound 
       way = subst (λ ms. IsWay problem allowed starts w.root.state (suc step) (path_of layers (suc step) index) ms k.label) m
           (subst (λ xs. IsWay problem allowed starts w.root.state (suc step) xs (way_marks layers step k.parent ++ option_to_list k.mark) k.label) p
           (way_more problem is_state allowed starts laws states w.root.state step (path_of layers step k.parent) (way_marks layers step k.parent) f.parent.label (record { label = k.label; act = k.act; mark = k.mark }) w.way f.grown
-          (subst (λ n. HasEta problem n k.label) one f.has_eta)));
+          (subst (λ n. HasBound problem n k.label) one f.has_bound)));
     }
 
 -- ---- the labels of sound layers are distinct reachable labels

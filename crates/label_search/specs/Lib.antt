@@ -2,3 +2,4 @@ pub mod Sound
 pub mod Searched
 pub mod Searching
 pub mod Ways
+pub mod Laws

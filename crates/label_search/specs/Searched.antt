@@ -15,7 +15,7 @@ use Rattle.cert_text.specs.Problem.{Problem}
 use Rattle.cert_text.specs.Cover.{taken, IsCoverList}
 use Rattle.label_search.specs.Sound.{IsWorked, HasLabels}
 
--- Some solution of the tour behind the log takes no more steps than so many.
+-- Some solution of the tour after the log takes no more steps than so many.
 pub record HasSolution (tour : Tour) (log : List Activity) (n : ℕ) : Type 0 where
   pub schedule : List Activity
   pub solves : IsSolution tour log schedule
@@ -27,7 +27,7 @@ layers_of (Found layers place) = layers
 layers_of (Never layers) = layers
 layers_of (Spent layers) = layers
 
--- The place is that of a finished label. The path to it is a shortest schedule, lawful behind the log with the marks of the path, and the layers are a cover list for its duration.
+-- The place is that of a finished label. The path to it is a shortest schedule, lawful after the log with the marks of the path, and the layers are a cover list for its duration.
 pub record IsFound {S : Type 0} (problem : Problem S) (is_state : S → ℕ → Type 0) (tour : Tour) (log : List Activity) (starts : S → Type 0) (roots : List (Root S)) (layers : List (List (Kept S))) (place : Place) : Type 0 where
   pub best : Kept S
   pub there : slice_get (layer_at layers place.layer) place.index ≡ Some best
@@ -47,7 +47,7 @@ pub record IsSpent {S : Type 0} (problem : Problem S) (tour : Tour) (log : List 
   pub worked : IsWorked problem starts (HasSolution tour log) layers
   pub many : HasLabels problem starts budget
 
--- what a search answers of a tour behind a log: `starts` tells in which states the log leaves the driver
+-- what a search answers of a tour after a log: `starts` tells in which states the log leaves the driver
 abbrev pub IsAnswer : {S : Type 0} → Problem S → (S → ℕ → Type 0) → Tour → List Activity → (S → Type 0) → List (Root S) → ℕ → Searched S → Type 0
 IsAnswer problem is_state tour log starts roots budget (Found layers place) = IsFound problem is_state tour log starts roots layers place
 IsAnswer problem is_state tour log starts roots budget (Never layers) = IsNever problem is_state tour log starts layers

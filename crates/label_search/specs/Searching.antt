@@ -1,5 +1,6 @@
 -- What the parts of a search promise of the labels that they make.
 use Rattle.std.specs.Prelude.{◌≡◌, ℕ, ◌+◌, ◌-◌, ◌<◌, ◌≤◌, Bool, true, false, List, [], ◌∷◌, ◌++◌, ◌⊎◌, length, nat_le, nat_lt, not, Option, None, Some, slice_get}
+use Rattle.std.specs.List.Sorted.{IsStrictlyIncreasing}
 use Rattle.duty_core.specs.declared.activity.Activity.{Activity}
 use Rattle.rule_core.specs.declared.roots.Root.{Root}
 use Rattle.rule_core.specs.Reach.{IsOneOf}
@@ -11,11 +12,10 @@ use Rattle.label_state.specs.declared.kept.Place.{Place}
 use Rattle.label_search.specs.declared.best.Best.{Best}
 use Rattle.label_search.specs.declared.by_layers.Searched.{Searched}
 use Rattle.label_search.specs.declared.by_layers.Searched.TheVariants.{Found, Never}
-use Rattle.tour_model.specs.Layer.{layer_at}
 use Rattle.label_state.specs.Layers.{labels_of, label_count}
-use Rattle.cert_text.specs.Problem.{Problem, root_label, successors_of, HasEta}
-use Rattle.cert_text.specs.Cover.{IsCovered, NoneIsBetter, IsAtLeast, taken, IsTooLong, IsLetOff, IsLabelAt}
-use Rattle.label_search.specs.Sound.{IsFirst, GrewFrom, AreOrdered}
+use Rattle.cert_text.specs.Problem.{Problem, root_label, successors_of, HasBound}
+use Rattle.cert_text.specs.Cover.{IsCovered, NoneIsBetter, IsAtLeast, taken, IsTooLong, IsPruned, IsLabelAt}
+use Rattle.label_search.specs.Sound.{IsFirst, parents_of, IsCoveredBefore, IsFullBefore, GrewFrom, AreOrdered}
 use Rattle.cert_text.specs.Continuation.{Continues, takes}
 
 -- The state is that of a root.
@@ -46,25 +46,31 @@ is_useful limit depart (Some eta) = not (is_long limit depart eta)
 pub record IsGathered {S : Type 0} (problem : Problem S) (limit : Option ℕ) (step place : ℕ) (gs : List (Grown S)) (k : Kept S) : Type 0 where
   pub parent : k.parent ≡ place
   pub grown : IsOneOf gs (record { label = k.label; act = k.act; mark = k.mark })
-  pub has_eta : HasEta problem step k.label
+  pub has_bound : HasBound problem step k.label
   pub beats : IsTooLong problem limit step k.label → ⊥
 
--- What gathering the successors of the parent at this place adds to a list: those that are not let off.
+-- What gathering the successors of the parent at this place adds to a list: those that are not pruned.
 pub record Gathers {S : Type 0} (problem : Problem S) (limit : Option ℕ) (step place : ℕ) (gs : List (Grown S)) (old new : List (Kept S)) : Type 0 where
   pub only : (k : Kept S) → IsOneOf new k → IsOneOf old k ⊎ IsGathered problem limit step place gs k
   pub keeps : (k : Kept S) → IsOneOf old k → IsOneOf new k
-  pub all : (g : Grown S) → IsOneOf gs g → IsLetOff problem limit step g.label ⊎ IsOneOf (labels_of new) g.label
+  pub all : (g : Grown S) → IsOneOf gs g → IsPruned problem limit step g.label ⊎ IsOneOf (labels_of new) g.label
 
--- The list holds the successors of a layer's labels but for those that are let off.
+-- The list holds the successors of a layer's labels but for those that are pruned.
 pub record AreGathered {S : Type 0} (problem : Problem S) (limit : Option ℕ) (step : ℕ) (layer list : List (Kept S)) : Type 0 where
   pub grew : (k : Kept S) → IsOneOf list k → GrewFrom problem step layer k
   pub beats : (k : Kept S) → IsOneOf list k → IsTooLong problem limit (step + 1) k.label → ⊥
-  pub all : (k : Kept S) → IsOneOf layer k → (g : Grown S) → IsOneOf (successors_of problem step k.label) g → IsLetOff problem limit (step + 1) g.label ⊎ IsOneOf (labels_of list) g.label
+  pub all : (k : Kept S) → IsOneOf layer k → (g : Grown S) → IsOneOf (successors_of problem step k.label) g → IsPruned problem limit (step + 1) g.label ⊎ IsOneOf (labels_of list) g.label
 
--- The list holds the labels of the roots, in order.
+-- The list holds the labels of the roots, in their order.
 pub record AreFirst {S : Type 0} (roots : List (Root S)) (list : List (Kept S)) : Type 0 where
   pub first : (k : Kept S) → IsOneOf list k → IsFirst roots k
-  pub all : (root : Root S) → IsOneOf roots root → IsOneOf (labels_of list) (root_label root.state)
+  pub rising : IsStrictlyIncreasing (parents_of list)
+  pub all : (i : ℕ) → i < length roots → IsOneOf (parents_of list) i
+
+-- Labels that are offered by rising places of their parents are kept in that order. One is left out only where one that is kept before it is better, or where the layer is full before it.
+pub record AreKeptInTurn {S : Type 0} (problem : Problem S) (step room : ℕ) (offered layer : List (Kept S)) : Type 0 where
+  pub rising : IsStrictlyIncreasing (parents_of layer)
+  pub all : (k : Kept S) → IsOneOf offered k → IsOneOf layer k ⊎ (IsCoveredBefore problem step layer k.parent k.label ⊎ IsFullBefore room layer k.parent)
 
 -- The layer that offering labels in order makes: it holds `room` labels at most, and where it holds fewer, it has a better label for each that was offered.
 pub record IsFilled {S : Type 0} (problem : Problem S) (step room : ℕ) (offered layer : List (Kept S)) : Type 0 where
@@ -73,19 +79,13 @@ pub record IsFilled {S : Type 0} (problem : Problem S) (step room : ℕ) (offere
   pub ordered : AreOrdered layer
   pub bounded : length layer ≤ room
   pub covers : length layer < room → (k : Kept S) → IsOneOf offered k → IsCovered problem step (labels_of layer) k.label
+  pub in_turn : IsStrictlyIncreasing (parents_of offered) → AreKeptInTurn problem step room offered layer
 
 -- One layer more, made of these labels.
 pub record AddsLayer {S : Type 0} (problem : Problem S) (budget : ℕ) (offered : List (Kept S)) (old new : List (List (Kept S))) : Type 0 where
   pub layer : List (Kept S)
-  pub behind : new ≡ old ++ layer ∷ []
+  pub thereafter : new ≡ old ++ layer ∷ []
   pub filled : IsFilled problem (length old) (budget - label_count old) offered layer
-
--- The label at this place is finished, and this is its duration.
-pub record IsFinishedAt {S : Type 0} (goal : ℕ) (layers : List (List (Kept S))) (place : Place) (duration : Option ℕ) : Type 0 where
-  pub kept : Kept S
-  pub there : slice_get (layer_at layers place.layer) place.index ≡ Some kept
-  pub finished : kept.label.progress ≡ goal
-  pub takes : duration ≡ Some (taken place.layer kept.label)
 
 -- The new limit is not above the old one, nor above the durations of the finished labels of this step's layer. Where it is lower, a finished label of that layer has it, and its place is named.
 pub record IsBestOf {S : Type 0} (goal step : ℕ) (layer : List (Kept S)) (old new : Best) : Type 0 where

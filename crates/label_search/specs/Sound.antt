@@ -1,5 +1,7 @@
 -- Sound layers, each label of which grew from a root, and worked ones, of which nothing was left out but in the last.
-use Rattle.std.specs.Prelude.{◌≡◌, ℕ, ◌+◌, ◌-◌, ◌<◌, ◌≤◌, true, List, [], ◌∷◌, ◌⊎◌, zero, suc, length, None, Some, slice_get}
+use Rattle.std.specs.Prelude.{◌≡◌, ℕ, ◌+◌, ◌-◌, ◌<◌, ◌≤◌, true, List, [], ◌∷◌, ◌⊎◌, zero, suc, length, map, None, Some, slice_get}
+use Rattle.std.specs.List.Sorted.{IsStrictlyIncreasing}
+use Rattle.duty_core.specs.declared.activity.Activity.TheVariants.{Off}
 use Rattle.rule_core.specs.declared.roots.Root.{Root}
 use Rattle.rule_core.specs.Reach.{IsOneOf}
 use Rattle.tour_model.specs.declared.label.Label.{Label}
@@ -7,21 +9,42 @@ use Rattle.cert_text.specs.declared.grown.Grown.{Grown}
 use Rattle.label_state.specs.declared.kept.Kept.{Kept}
 use Rattle.tour_model.specs.Layer.{layer_at}
 use Rattle.label_state.specs.Layers.{labels_of, label_count}
-use Rattle.cert_text.specs.Problem.{Problem, root_label, successors_of, later, HasEta}
+use Rattle.cert_text.specs.Problem.{Problem, root_label, successors_of, is_better, later, HasBound}
 use Rattle.cert_text.specs.Cover.{IsCovered, NoneIsBetter, taken, IsTooLong}
 
--- The label of the first layer is that of the root at the place of its parent.
+-- The label of the first layer is that of the root at the place of its parent; its activity is `Off`, and it has no mark.
 pub record IsFirst {S : Type 0} (roots : List (Root S)) (k : Kept S) : Type 0 where
   pub root : Root S
   pub there : slice_get roots k.parent ≡ Some root
   pub label : k.label ≡ root_label root.state
+  pub act : k.act ≡ Off
+  pub mark : k.mark ≡ None
+
+-- the places of the labels' parents
+abbrev pub parents_of : {S : Type 0} → List (Kept S) → List ℕ
+parents_of layer = map (λ k. k.parent) layer
+
+-- A label of the layer whose parent stands before this place is better.
+abbrev pub IsCoveredBefore : {S : Type 0} → Problem S → ℕ → List (Kept S) → ℕ → Label S → Type 0
+IsCoveredBefore {S} problem step layer place l = (k : Kept S) × IsOneOf layer k × (k.parent < place) × (is_better problem step k.label l ≡ true)
+
+-- The layer has all the labels that it may have, and their parents stand before this place.
+abbrev pub IsFullBefore : {S : Type 0} → ℕ → List (Kept S) → ℕ → Type 0
+IsFullBefore {S} most layer place = (length layer ≡ most) × ((k : Kept S) → IsOneOf layer k → k.parent < place)
+
+-- The first layer has labels of the roots, in the order of the roots, and no more than the budget. A root has none there only where an earlier one is better, or where the layer is full before it.
+pub record IsFirstLayer {S : Type 0} (problem : Problem S) (roots : List (Root S)) (budget : ℕ) (layer : List (Kept S)) : Type 0 where
+  pub labels : (k : Kept S) → IsOneOf layer k → IsFirst roots k
+  pub rising : IsStrictlyIncreasing (parents_of layer)
+  pub bounded : length layer ≤ budget
+  pub all : (i : ℕ) (root : Root S) → slice_get roots i ≡ Some root → IsOneOf (parents_of layer) i ⊎ (IsCoveredBefore problem 0 layer i (root_label root.state) ⊎ IsFullBefore budget layer i)
 
 -- The label grew from its parent in the layer before, and can still be finished.
 pub record GrewFrom {S : Type 0} (problem : Problem S) (step : ℕ) (layer : List (Kept S)) (k : Kept S) : Type 0 where
   pub parent : Kept S
   pub there : slice_get layer k.parent ≡ Some parent
   pub grown : IsOneOf (successors_of problem step parent.label) (record { label = k.label; act = k.act; mark = k.mark })
-  pub has_eta : HasEta problem (step + 1) k.label
+  pub has_bound : HasBound problem (step + 1) k.label
 
 -- The first label departs no earlier, a label that has not departed being the last to depart; and of one departure it has done as much or more.
 pub record StandsBefore {S : Type 0} (a b : Label S) : Type 0 where
@@ -43,16 +66,16 @@ pub record IsSound {S : Type 0} (problem : Problem S) (roots : List (Root S)) (l
   pub ordered : (step : ℕ) → AreOrdered (layer_at layers (step + 1))
 
 -- A departed label ends no sooner after its departure than a solution: `solves` tells for which durations there is a solution that takes no more.
-pub record IsOutdone {S : Type 0} (problem : Problem S) (solves : ℕ → Type 0) (step : ℕ) (l : Label S) : Type 0 where
+pub record IsDominated {S : Type 0} (problem : Problem S) (solves : ℕ → Type 0) (step : ℕ) (l : Label S) : Type 0 where
   pub depart : ℕ
-  pub eta : ℕ
+  pub bound : ℕ
   pub departed : l.depart ≡ Some depart
-  pub ends : problem.eta step l.progress ≡ Some eta
-  pub solved : solves (eta - depart)
+  pub ends : problem.bound step l ≡ Some bound
+  pub solved : solves (bound - depart)
 
 -- A label need not be kept: its windows can no longer be met, or it can do no better than some solution.
 abbrev pub IsIdle : {S : Type 0} → Problem S → (ℕ → Type 0) → ℕ → Label S → Type 0
-IsIdle problem solves step l = (problem.eta step l.progress ≡ None) ⊎ IsOutdone problem solves step l
+IsIdle problem solves step l = (problem.bound step l ≡ None) ⊎ IsDominated problem solves step l
 
 -- Where there is a second layer, the first one has a label for each state in which the driver may start. And up to the last layer but one, each successor of an unfinished label need not be kept, or has a better label in the next layer.
 pub record IsWorked {S : Type 0} (problem : Problem S) (starts : S → Type 0) (solves : ℕ → Type 0) (layers : List (List (Kept S))) : Type 0 where
@@ -63,7 +86,7 @@ pub record IsWorked {S : Type 0} (problem : Problem S) (starts : S → Type 0) (
 -- A label is reachable at the start where it is the first label of a state in which the driver may start, and later where it grows from a reachable one and can still be finished.
 abbrev pub IsReachable : {S : Type 0} → Problem S → (S → Type 0) → ℕ → Label S → Type 0
 IsReachable {S} problem starts zero l = (s : S) × starts s × (root_label s ≡ l)
-IsReachable {S} problem starts (suc step) l = (b : Label S) × IsReachable problem starts step b × (g : Grown S) × IsOneOf (successors_of problem step b) g × (g.label ≡ l) × HasEta problem (suc step) l
+IsReachable {S} problem starts (suc step) l = (b : Label S) × IsReachable problem starts step b × (g : Grown S) × IsOneOf (successors_of problem step b) g × (g.label ≡ l) × HasBound problem (suc step) l
 
 -- no two labels of the list are equal
 abbrev pub AreDistinct : {X : Type 0} → List X → Type 0

@@ -26,13 +26,13 @@ pub fn add_layer<B: RuleBook>(
     layers: &mut Layers<B::State>,
 ) -> Result<(), NoMemory>
     requires tour { IsTour tour.now }
-    requires params { B.params_of book.now ≡ tour.now.params }
-    requires labels { AreLabelsAt (state_at tour.now (B.is_state_at book.now)) (word_length tour.now) (length layers.old) list.items }
+    requires params { (B.machine book.now).params ≡ tour.now.params }
+    requires labels { AreLabelsAt (state_at tour.now (B.machine book.now)) (word_length tour.now) (length layers.old) list.items }
     requires ordered { AreOrdered list.items }
     requires depth { length layers.old < LAYER_LIMIT }
     requires room { label_count layers.old ≤ budget }
     requires budget { budget ≤ LAYER_LIMIT }
-    ensures ok { OnOk result (AddsLayer (problem_of tour.now (B.advances_of book.now) (B.covering book.now) (B.idles_of book.now)) budget list.items layers.old layers.new) }
+    ensures ok { OnOk result (AddsLayer (problem_of tour.now (B.machine book.now)) budget list.items layers.old layers.new) }
 {
     layers.push_layer(alloc)?;
     for kept in list {

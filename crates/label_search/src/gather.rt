@@ -45,11 +45,11 @@ fn gather_from<B: RuleBook>(
     list: &mut Vec<Kept<B::State>>,
 ) -> Result<(), NoMemory>
     requires tour { IsTour tour.now }
-    requires params { B.params_of book.now ≡ tour.now.params }
-    requires label { IsLabelAt (state_at tour.now (B.is_state_at book.now)) (word_length tour.now) step label.now }
+    requires params { (B.machine book.now).params ≡ tour.now.params }
+    requires label { IsLabelAt (state_at tour.now (B.machine book.now)) (word_length tour.now) step label.now }
     requires step { step + 1 < STEP_LIMIT }
-    ensures ok { OnOk result (Gathers (problem_of tour.now (B.advances_of book.now) (B.covering book.now) (B.idles_of book.now)) limit (step + 1) parent
-        (successors_of (problem_of tour.now (B.advances_of book.now) (B.covering book.now) (B.idles_of book.now)) step label.now) list.old.items list.new.items) }
+    ensures ok { OnOk result (Gathers (problem_of tour.now (B.machine book.now)) limit (step + 1) parent
+        (successors_of (problem_of tour.now (B.machine book.now)) step label.now) list.old.items list.new.items) }
 {
     for grown in successors(alloc, book, tour, label, step)?.into_vec() {
         let Grown { label, act, mark } = grown;
@@ -77,12 +77,12 @@ pub fn gather<B: RuleBook>(
     layer: &[Kept<B::State>],
 ) -> Result<Vec<Kept<B::State>>, NoMemory>
     requires tour { IsTour tour.now }
-    requires params { B.params_of book.now ≡ tour.now.params }
-    requires layer { AreLabelsAt (state_at tour.now (B.is_state_at book.now)) (word_length tour.now) step layer.now }
+    requires params { (B.machine book.now).params ≡ tour.now.params }
+    requires layer { AreLabelsAt (state_at tour.now (B.machine book.now)) (word_length tour.now) step layer.now }
     requires size { length layer.now ≤ LAYER_LIMIT }
     requires step { step + 1 < STEP_LIMIT }
-    ensures gathered { IfOk result (λ list. AreGathered (problem_of tour.now (B.advances_of book.now) (B.covering book.now) (B.idles_of book.now)) limit step layer.now list.items) }
-    ensures labels { IfOk result (λ list. AreLabelsAt (state_at tour.now (B.is_state_at book.now)) (word_length tour.now) (step + 1) list.items) }
+    ensures gathered { IfOk result (λ list. AreGathered (problem_of tour.now (B.machine book.now)) limit step layer.now list.items) }
+    ensures labels { IfOk result (λ list. AreLabelsAt (state_at tour.now (B.machine book.now)) (word_length tour.now) (step + 1) list.items) }
     ensures ordered { IfOk result (λ list. AreOrdered list.items) }
 {
     let mut list = Vec::new(alloc);
@@ -109,10 +109,10 @@ pub fn root_labels<B: RuleBook>(
     tour: &Tour,
     roots: &[Root<B::State>],
 ) -> Result<Vec<Kept<B::State>>, NoMemory>
-    requires roots { AreRootStates (B.is_state_at book.now) tour.now.start roots.now }
+    requires roots { AreRootStates (B.machine book.now) tour.now.start roots.now }
     requires few { length roots.now < 2 ^ 32 }
     ensures first { IfOk result (λ list. AreFirst roots.now list.items) }
-    ensures labels { IfOk result (λ list. AreLabelsAt (state_at tour.now (B.is_state_at book.now)) (word_length tour.now) 0 list.items) }
+    ensures labels { IfOk result (λ list. AreLabelsAt (state_at tour.now (B.machine book.now)) (word_length tour.now) 0 list.items) }
     ensures ordered { IfOk result (λ list. AreOrdered list.items) }
 {
     let _ = tour;

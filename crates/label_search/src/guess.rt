@@ -1,5 +1,5 @@
-//! A first guess at the shortest duration: a quick search that keeps a few labels of each step, and
-//! proves that a solution takes no more than what it finds.
+//! A first guess at the shortest duration: a quick search that keeps few labels. It proves only that
+//! some solution takes no more than what it finds.
 ghost use Rattle.std.specs.Prelude.{◌≡◌, ℕ, ◌+◌, ◌^◌, ◌<◌, ◌≤◌, List, length, IfOk, OnOk};
 ghost use Rattle.duty_core.specs.Params.{allows};
 ghost use Rattle.rule_core.specs.Replay.{AreRootStates};
@@ -20,10 +20,10 @@ use rule_core::{Root, RuleBook};
 use std::alloc::Global;
 use tour_model::{STEP_LIMIT, Tour};
 
-/// The most labels that the guess keeps of a step.
+/// How many labels the guess keeps of a step, which bounds its work.
 const BEAM: usize = 10;
 
-/// How many labels the guess may grow for each label of the search's budget.
+/// How many labels the guess grows for each label of the search's budget, which bounds its work.
 const WORK: u32 = 10;
 
 /// A label, and the step at which it might end, by which it is ranked.
@@ -47,8 +47,8 @@ fn root_beam<B: RuleBook>(
     tour: &Tour,
     roots: &[Root<B::State>],
 ) -> Result<Vec<Label<B::State>>, NoMemory>
-    requires roots { AreRootStates (B.is_state_at book.now) tour.now.start roots.now }
-    ensures { IfOk result (λ beam. AreReached (problem_of tour.now (B.advances_of book.now) (B.covering book.now) (B.idles_of book.now)) (state_at tour.now (B.is_state_at book.now))
+    requires roots { AreRootStates (B.machine book.now) tour.now.start roots.now }
+    ensures { IfOk result (λ beam. AreReached (problem_of tour.now (B.machine book.now)) (state_at tour.now (B.machine book.now))
         (allows tour.now.params) (IsRootState roots.now) 0 beam.items) }
 {
     let _ = tour;
@@ -117,14 +117,14 @@ fn grow_label<B: RuleBook>(
     list: &mut Vec<Ranked<B::State>>,
 ) -> Result<(), NoMemory>
     requires tour { IsTour tour.now }
-    requires params { B.params_of book.now ≡ tour.now.params }
-    requires roots { AreRootStates (B.is_state_at book.now) tour.now.start roots.now }
-    requires label { IsReached (problem_of tour.now (B.advances_of book.now) (B.covering book.now) (B.idles_of book.now)) (state_at tour.now (B.is_state_at book.now))
+    requires params { (B.machine book.now).params ≡ tour.now.params }
+    requires roots { AreRootStates (B.machine book.now) tour.now.start roots.now }
+    requires label { IsReached (problem_of tour.now (B.machine book.now)) (state_at tour.now (B.machine book.now))
         (allows tour.now.params) (IsRootState roots.now) step label.now }
-    requires list { AreRankedReached (problem_of tour.now (B.advances_of book.now) (B.covering book.now) (B.idles_of book.now)) (state_at tour.now (B.is_state_at book.now))
+    requires list { AreRankedReached (problem_of tour.now (B.machine book.now)) (state_at tour.now (B.machine book.now))
         (allows tour.now.params) (IsRootState roots.now) (step + 1) list.old.items }
     requires step { step + 1 < STEP_LIMIT }
-    ensures ok { OnOk result (AreRankedReached (problem_of tour.now (B.advances_of book.now) (B.covering book.now) (B.idles_of book.now)) (state_at tour.now (B.is_state_at book.now))
+    ensures ok { OnOk result (AreRankedReached (problem_of tour.now (B.machine book.now)) (state_at tour.now (B.machine book.now))
         (allows tour.now.params) (IsRootState roots.now) (step + 1) list.new.items) }
 {
     let _ = roots;
@@ -151,12 +151,12 @@ fn grow_beam<B: RuleBook>(
     beam: &[Label<B::State>],
 ) -> Result<Vec<Ranked<B::State>>, NoMemory>
     requires tour { IsTour tour.now }
-    requires params { B.params_of book.now ≡ tour.now.params }
-    requires roots { AreRootStates (B.is_state_at book.now) tour.now.start roots.now }
-    requires beam { AreReached (problem_of tour.now (B.advances_of book.now) (B.covering book.now) (B.idles_of book.now)) (state_at tour.now (B.is_state_at book.now))
+    requires params { (B.machine book.now).params ≡ tour.now.params }
+    requires roots { AreRootStates (B.machine book.now) tour.now.start roots.now }
+    requires beam { AreReached (problem_of tour.now (B.machine book.now)) (state_at tour.now (B.machine book.now))
         (allows tour.now.params) (IsRootState roots.now) step beam.now }
     requires step { step + 1 < STEP_LIMIT }
-    ensures { IfOk result (λ list. AreRankedReached (problem_of tour.now (B.advances_of book.now) (B.covering book.now) (B.idles_of book.now)) (state_at tour.now (B.is_state_at book.now))
+    ensures { IfOk result (λ list. AreRankedReached (problem_of tour.now (B.machine book.now)) (state_at tour.now (B.machine book.now))
         (allows tour.now.params) (IsRootState roots.now) (step + 1) list.items) }
 {
     let mut list = Vec::new(alloc);
@@ -175,9 +175,9 @@ fn is_covered<B: RuleBook>(
     step: u32,
 ) -> bool
     requires tour { IsTour tour.now }
-    requires params { B.params_of book.now ≡ tour.now.params }
-    requires beam { AreStatesAt (state_at tour.now (B.is_state_at book.now)) step beam.now }
-    requires label { state_at tour.now (B.is_state_at book.now) label.now.state step }
+    requires params { (B.machine book.now).params ≡ tour.now.params }
+    requires beam { AreStatesAt (state_at tour.now (B.machine book.now)) step beam.now }
+    requires label { state_at tour.now (B.machine book.now) label.now.state step }
     requires step { step < STEP_LIMIT }
 {
     for other in beam {
@@ -198,11 +198,11 @@ fn thinned<B: RuleBook>(
     list: Vec<Ranked<B::State>>,
 ) -> Result<Vec<Label<B::State>>, NoMemory>
     requires tour { IsTour tour.now }
-    requires params { B.params_of book.now ≡ tour.now.params }
-    requires list { AreRankedReached (problem_of tour.now (B.advances_of book.now) (B.covering book.now) (B.idles_of book.now)) (state_at tour.now (B.is_state_at book.now))
+    requires params { (B.machine book.now).params ≡ tour.now.params }
+    requires list { AreRankedReached (problem_of tour.now (B.machine book.now)) (state_at tour.now (B.machine book.now))
         (allows tour.now.params) (IsRootState roots.now) step list.items }
     requires step { step < STEP_LIMIT }
-    ensures { IfOk result (λ beam. AreReached (problem_of tour.now (B.advances_of book.now) (B.covering book.now) (B.idles_of book.now)) (state_at tour.now (B.is_state_at book.now))
+    ensures { IfOk result (λ beam. AreReached (problem_of tour.now (B.machine book.now)) (state_at tour.now (B.machine book.now))
         (allows tour.now.params) (IsRootState roots.now) step beam.items) }
 {
     let _ = roots;
@@ -254,13 +254,13 @@ fn follow<B: RuleBook>(
     guess: Guess,
 ) -> Result<Guess, NoMemory>
     requires tour { IsTour tour.now }
-    requires params { B.params_of book.now ≡ tour.now.params }
-    requires roots { AreRootStates (B.is_state_at book.now) tour.now.start roots.now }
-    requires departed { AreReached (problem_of tour.now (B.advances_of book.now) (B.covering book.now) (B.idles_of book.now)) (state_at tour.now (B.is_state_at book.now))
+    requires params { (B.machine book.now).params ≡ tour.now.params }
+    requires roots { AreRootStates (B.machine book.now) tour.now.start roots.now }
+    requires departed { AreReached (problem_of tour.now (B.machine book.now)) (state_at tour.now (B.machine book.now))
         (allows tour.now.params) (IsRootState roots.now) first departed.items }
-    requires guess { IsGuess (problem_of tour.now (B.advances_of book.now) (B.covering book.now) (B.idles_of book.now)) (allows tour.now.params) (IsRootState roots.now) guess.best }
+    requires guess { IsGuess (problem_of tour.now (B.machine book.now)) (allows tour.now.params) (IsRootState roots.now) guess.best }
     requires first { first < STEP_LIMIT }
-    ensures { IfOk result (λ found. IsGuess (problem_of tour.now (B.advances_of book.now) (B.covering book.now) (B.idles_of book.now)) (allows tour.now.params) (IsRootState roots.now) found.best) }
+    ensures { IfOk result (λ found. IsGuess (problem_of tour.now (B.machine book.now)) (allows tour.now.params) (IsRootState roots.now) found.best) }
 {
     let goal = tour.word_len();
     let mut guess = guess;
@@ -310,9 +310,9 @@ fn guessed<B: RuleBook>(
     work: usize,
 ) -> Result<Guess, NoMemory>
     requires tour { IsTour tour.now }
-    requires params { B.params_of book.now ≡ tour.now.params }
-    requires roots { AreRootStates (B.is_state_at book.now) tour.now.start roots.now }
-    ensures { IfOk result (λ found. IsGuess (problem_of tour.now (B.advances_of book.now) (B.covering book.now) (B.idles_of book.now)) (allows tour.now.params) (IsRootState roots.now) found.best) }
+    requires params { (B.machine book.now).params ≡ tour.now.params }
+    requires roots { AreRootStates (B.machine book.now) tour.now.start roots.now }
+    ensures { IfOk result (λ found. IsGuess (problem_of tour.now (B.machine book.now)) (allows tour.now.params) (IsRootState roots.now) found.best) }
 {
     let mut guess = Guess { best: None, work };
     let mut waiting = root_beam(alloc, book, tour, roots)?;
@@ -329,7 +329,7 @@ fn guessed<B: RuleBook>(
 }
 
 /// A number of steps that some solution stays below, where a quick search finds one; None where it
-/// finds none. It grows at most ten labels for each label of the budget, and those of one step more.
+/// finds none.
 pub fn first_limit<B: RuleBook>(
     alloc: Global,
     book: &B,
@@ -338,9 +338,9 @@ pub fn first_limit<B: RuleBook>(
     budget: u32,
 ) -> Result<Option<u32>, NoMemory>
     requires tour { IsTour tour.now }
-    requires params { B.params_of book.now ≡ tour.now.params }
-    requires roots { AreRootStates (B.is_state_at book.now) tour.now.start roots.now }
-    ensures { IfOk result (IsLimit (problem_of tour.now (B.advances_of book.now) (B.covering book.now) (B.idles_of book.now)) (allows tour.now.params) (IsRootState roots.now)) }
+    requires params { (B.machine book.now).params ≡ tour.now.params }
+    requires roots { AreRootStates (B.machine book.now) tour.now.start roots.now }
+    ensures { IfOk result (IsLimit (problem_of tour.now (B.machine book.now)) (allows tour.now.params) (IsRootState roots.now)) }
 {
     let guess = guessed(
         alloc,

@@ -3,7 +3,8 @@ ghost use Rattle.std.specs.Prelude.{◌≡◌, ℕ, ◌*◌, ◌≤◌, List, le
 ghost use Rattle.duty_core.specs.declared.limits.TheConstants.{LONGEST_LOG};
 ghost use Rattle.duty_core.specs.Params.{unit_minutes};
 ghost use Rattle.rule_core.specs.declared.roots.Root.{Root};
-ghost use Rattle.rule_core.specs.Reach.{IsOneOf, Reaches};
+ghost use Rattle.rule_core.specs.Reach.{IsOneOf};
+ghost use Rattle.rule_core.specs.Machine.{LeadsTo};
 ghost use Rattle.tour_model.specs.Tour.{IsTour};
 ghost use Rattle.tour_model.specs.Word.{word_length};
 ghost use Rattle.tour_model.specs.Schedule.{log_start, IsSolutionWith};
@@ -21,11 +22,11 @@ use tour_model::Tour;
 /// root's marks.
 pub fn paths_are_lawful<B: RuleBook>(book: &B, tour: &Tour, log: &Timeline)
     requires tour { IsTour tour.now }
-    requires params { B.params_of book.now ≡ tour.now.params }
+    requires params { (B.machine book.now).params ≡ tour.now.params }
     requires short { unit_minutes tour.now.params * length log.now ≤ LONGEST_LOG }
     ensures { (roots : List (Root B.State)) (layers : List (List (Kept B.State))) (step index : ℕ) (k : Kept B.State) →
-        ((root : Root B.State) → IsOneOf roots root → Reaches (unit_minutes tour.now.params) (B.nexts_of book.now) (B.root_of book.now (log_start tour.now log.now)) (log_start tour.now log.now) log.now root.marks root.state) →
-        IsSound (problem_of tour.now (B.advances_of book.now) (B.covering book.now) (B.idles_of book.now)) roots layers →
+        ((root : Root B.State) → IsOneOf roots root → LeadsTo (unit_minutes tour.now.params) (B.machine book.now) (log_start tour.now log.now) log.now root.marks root.state) →
+        IsSound (problem_of tour.now (B.machine book.now)) roots layers →
         kept_at layers step index ≡ Some k → k.label.progress ≡ word_length tour.now →
         IsSolutionWith tour.now log.now (path_of layers step index) (path_marks layers roots step index) }
 {

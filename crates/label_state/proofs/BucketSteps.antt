@@ -6,9 +6,9 @@ use Rattle.std.proofs.lemmas.Option.{slice_get_read}
 use Rattle.label_state.specs.declared.kept.Kept.{Kept}
 use Rattle.label_state.specs.declared.buckets.Bucket.{Bucket}
 use Rattle.label_state.specs.Layers.{last_step, last_layer, with_kept}
-use Rattle.label_state.specs.LayerLaws.{length_kept, last_kept, layer_new}
+use Rattle.label_state.specs.Laws.LayerLaws.{length_kept, last_kept, layer_new}
 use Rattle.label_state.specs.Buckets.{places_from, places_of, place_if, places_in, AreUpTo, AreBuckets}
-use Rattle.label_state.specs.BucketLaws.{places_push, equal_test}
+use Rattle.label_state.specs.Laws.BucketLaws.{places_push, equal_test}
 
 other_test : (a b : ℕ) → (a ≡ b → ⊥) → nat_eq a b ≡ false
 other_test a b d = grind (arith, nat_tests)

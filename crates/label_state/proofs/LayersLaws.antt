@@ -12,7 +12,7 @@ use Rattle.label_state.proofs.BucketSteps.{held_push, held_keep, held_same}
 use Rattle.label_state.specs.declared.layers.TheConstants.{LAYER_LIMIT}
 use Rattle.label_state.specs.Layers.{label_count, last_step, last_layer, with_kept}
 use Rattle.label_state.specs.Plain.{plain, AreCounted, AreHeld}
-use Rattle.label_state.specs.LayerLaws.{with_kept_is, count_kept, length_kept, count_pushed}
+use Rattle.label_state.specs.Laws.LayerLaws.{with_kept_is, count_kept, length_kept, count_pushed}
 
 plain_set : {X : Type 0} (vs : List (Vec X)) (i : ℕ) (w : Vec X) → plain (slice_set vs i w) ≡ slice_set (plain vs) i w.items
 plain_set vs i w = map-set (λ v. v.items) vs i w

@@ -1,5 +1,5 @@
 -- Where the labels of each progress stand in the last layer.
-use Rattle.std.specs.Prelude.{◌≡◌, ℕ, ◌+◌, ◌<◌, ◌≤◌, zero, suc, List, [], ◌∷◌, ◌++◌, length, Option, None, Some, slice_get, slice_index_or, nat_eq, if◌then◌else◌}
+use Rattle.std.specs.Prelude.{◌≡◌, ℕ, ◌≤◌, suc, List, [], ◌∷◌, length, Option, None, Some, slice_get, nat_eq, if◌then◌else◌}
 use Rattle.label_state.specs.declared.kept.Kept.{Kept}
 use Rattle.label_state.specs.declared.buckets.Bucket.{Bucket}
 use Rattle.label_state.specs.Layers.{last_layer}
@@ -29,9 +29,3 @@ AreUpTo depth buckets = (p : ℕ) (b : Bucket) → slice_get buckets p ≡ Some 
 pub record AreBuckets {S : Type 0} (buckets : List Bucket) (layers : List (List (Kept S))) : Type 0 where
   pub here : (p : ℕ) → places_in (length layers) (slice_get buckets p) ≡ places_of p (last_layer layers)
   pub old : AreUpTo (length layers) buckets
-
--- The places are those of a layer's labels of this progress, all of them, in order, where the layer's first label stands at place i.
-pub record ArePlaces {S : Type 0} (p i : ℕ) (layer : List (Kept S)) (places : List ℕ) : Type 0 where
-  pub there : (m : ℕ) → m < length places → (j : ℕ) × (slice_index_or places m 0 ≡ i + j) × (j < length layer)
-  pub all : (j : ℕ) (k : Kept S) → slice_get layer j ≡ Some k → k.label.progress ≡ p → (m : ℕ) × (m < length places) × (slice_index_or places m 0 ≡ i + j)
-  pub rising : (m n : ℕ) → m < n → n < length places → slice_index_or places m 0 < slice_index_or places n 0

@@ -1,6 +1,5 @@
 pub mod Layers
 pub mod Plain
 pub mod Path
-pub mod LayerLaws
 pub mod Buckets
-pub mod BucketLaws
+pub mod Laws

@@ -7,7 +7,7 @@ use Rattle.label_state.specs.declared.kept.Kept.{Kept}
 use Rattle.label_state.specs.declared.buckets.Bucket.{Bucket}
 use Rattle.label_state.specs.Buckets.{AreBuckets}
 
--- the lists behind the vectors
+-- the lists after the vectors
 abbrev pub plain : {X : Type 0} → List (Vec X) → List (List X)
 plain vs = map (λ v. v.items) vs
 

@@ -10,12 +10,14 @@ use Rattle.duty_core.specs.declared.activity.Activity.{Activity}
 use Rattle.duty_core.specs.declared.activity.Activity.TheVariants.{Serve}
 use Rattle.rule_core.specs.declared.numbers.TheConstants.{NUMBER_LIMIT, MOST_NUMBERS}
 use Rattle.rule_core.specs.Reach.{IsOneOf}
+use Rattle.rule_core.specs.Machine.{Machine}
+use Rattle.rule_core.specs.Book.{IsStateText}
 use Rattle.tour_model.specs.declared.label.Label.{Label}
 use Rattle.tour_model.specs.declared.schedule.Schedule.{Schedule}
 use Rattle.tour_model.specs.declared.stop.Stop.{Stop}
 use Rattle.tour_model.specs.declared.tour.Tour.{Tour}
 use Rattle.tour_model.specs.Layer.{layer_at}
-use Rattle.tour_model.specs.LengthLaws.{serves_few, history_short}
+use Rattle.tour_model.specs.Laws.LengthLaws.{serves_few, history_short}
 use Rattle.tour_model.specs.Schedule.{ServesFrom, depart_from, duration, log_start, history_of}
 use Rattle.tour_model.specs.Tour.{IsStop, IsTour}
 use Rattle.tour_model.specs.Way.{progresses}
@@ -31,7 +33,7 @@ use Rattle.cert_text.specs.Cert.{acts_of_runs, IsLabelOf, AreLabelsOf, AreLayers
 use Rattle.cert_text.specs.Cover.{IsLabelAt}
 use Rattle.cert_text.specs.Form.{AreMarkForms, IsLabelForm, IsLayerForm, IsClaimForm, IsCertForm}
 use Rattle.cert_text.specs.Planning.{minute_of, state_at}
-use Rattle.cert_text.specs.ProblemOf.{word_few}
+use Rattle.cert_text.specs.Laws.ProblemOf.{word_few}
 use Rattle.refutation.specs.Refutes.{Tells, IsSolved}
 use Rattle.refutation.specs.Runs.{AreMaximal}
 use Rattle.refutation.proofs.MarksLaws.{lawful_marks}
@@ -58,10 +60,6 @@ same_long state_of tour step (cs ∷ css) layers of = ap suc (same_long state_of
 
 -- ---- labels
 
--- the numbers of a book's states are few and small
-abbrev pub HasFewNumbers : {S : Type 0} → (S → ℕ → Type 0) → (List ℕ → ℕ → Option S) → Type 0
-HasFewNumbers {S} is_state state_of = (ns : List ℕ) (s : S) (at : ℕ) → state_of ns at ≡ Some s → (length ns ≤ MOST_NUMBERS) × All (λ n. n < NUMBER_LIMIT) ns
-
 departed : {S : Type 0} (is_state : S → ℕ → Type 0) (goal step : ℕ) (l : Label S) → IsLabelAt is_state goal step l → step < NUMBER_LIMIT → IfSome l.depart (λ d. d < NUMBER_LIMIT)
 departed {S} is_state goal step l is few = go l.progress refl
   where
@@ -71,45 +69,46 @@ departed {S} is_state goal step l is few = go l.progress refl
         let d = is.departed (omega (arith, e)) in
         subst (λ o. IfSome o (λ d. d < NUMBER_LIMIT)) (sym d.1) (let before = d.2 in let lt : d.0 < NUMBER_LIMIT = omega (arith, before, few) in lt)
 
-label_form : {S : Type 0} (is_state : S → ℕ → Type 0) (state_of : List ℕ → ℕ → Option S) (tour : Tour) (goal step : ℕ) (c : CertLabel) (l : Label S) → HasFewNumbers is_state state_of → goal < NUMBER_LIMIT → step < NUMBER_LIMIT
-    → IsLabelOf state_of (minute_of tour step) c l → IsLabelAt (state_at tour is_state) goal step l → IsLabelForm c
-label_form is_state state_of tour goal step c l few small low of is =
-    let numbers = few c.numbers l.state (minute_of tour step) of.state in
+label_form : {S : Type 0} (m : Machine S) (tour : Tour) (goal step : ℕ) (c : CertLabel) (l : Label S) → IsStateText m → goal < NUMBER_LIMIT → step < NUMBER_LIMIT
+    → IsLabelOf m.state_of (minute_of tour step) c l → IsLabelAt (state_at tour m) goal step l → IsLabelForm c
+label_form m tour goal step c l text small low of is =
+    let told = text.numbers_told c.numbers l.state (minute_of tour step) of.state in
+    let numbers = subst (λ (ns : List ℕ). (length ns ≤ MOST_NUMBERS) × All (λ n. n < NUMBER_LIMIT) ns) told.1 (text.numbers_few l.state (minute_of tour step) told.0) in
     let progress = of.progress in
     let within = is.progress in
     record {
-      depart = subst (λ o. IfSome o (λ d. d < NUMBER_LIMIT)) of.depart (departed (state_at tour is_state) goal step l is low);
+      depart = subst (λ o. IfSome o (λ d. d < NUMBER_LIMIT)) of.depart (departed (state_at tour m) goal step l is low);
       progress = omega (arith, progress, within, small);
       few = numbers.0;
       numbers = recursion_from_All (λ n. n < NUMBER_LIMIT) c.numbers numbers.1;
     }
 
 -- what is known of the labels of a step
-abbrev pub AreLabelsAt : {S : Type 0} → (S → ℕ → Type 0) → Tour → ℕ → ℕ → List (Label S) → Type 0
-AreLabelsAt {S} is_state tour goal step layer = (l : Label S) → IsOneOf layer l → IsLabelAt (state_at tour is_state) goal step l
+abbrev pub AreLabelsAt : {S : Type 0} → Machine S → Tour → ℕ → ℕ → List (Label S) → Type 0
+AreLabelsAt {S} m tour goal step layer = (l : Label S) → IsOneOf layer l → IsLabelAt (state_at tour m) goal step l
 
-labels_form : {S : Type 0} (is_state : S → ℕ → Type 0) (state_of : List ℕ → ℕ → Option S) (tour : Tour) (goal step : ℕ) (cs : List CertLabel) (ls : List (Label S)) → HasFewNumbers is_state state_of → goal < NUMBER_LIMIT → step < NUMBER_LIMIT
-    → AreLabelsOf state_of (minute_of tour step) cs ls → AreLabelsAt is_state tour goal step ls → AllByRecursion IsLabelForm cs
-labels_form is_state state_of tour goal step [] ls few small low of at = tt
-labels_form is_state state_of tour goal step (c ∷ cs) ls few small low of at =
-    let here : AreLabelsAt is_state tour goal step (of.0 ∷ of.1) = subst (AreLabelsAt is_state tour goal step) of.2 at in
-    (label_form is_state state_of tour goal step c of.0 few small low of.3 (here of.0 (inl refl)), labels_form is_state state_of tour goal step cs of.1 few small low of.4 (λ l i. here l (inr i)))
+labels_form : {S : Type 0} (m : Machine S) (tour : Tour) (goal step : ℕ) (cs : List CertLabel) (ls : List (Label S)) → IsStateText m → goal < NUMBER_LIMIT → step < NUMBER_LIMIT
+    → AreLabelsOf m.state_of (minute_of tour step) cs ls → AreLabelsAt m tour goal step ls → AllByRecursion IsLabelForm cs
+labels_form m tour goal step [] ls text small low of at = tt
+labels_form m tour goal step (c ∷ cs) ls text small low of at =
+    let here : AreLabelsAt m tour goal step (of.0 ∷ of.1) = subst (AreLabelsAt m tour goal step) of.2 at in
+    (label_form m tour goal step c of.0 text small low of.3 (here of.0 (inl refl)), labels_form m tour goal step cs of.1 text small low of.4 (λ l i. here l (inr i)))
 
-layers_form : {S : Type 0} (is_state : S → ℕ → Type 0) (state_of : List ℕ → ℕ → Option S) (tour : Tour) (goal step : ℕ) (css : List (List CertLabel)) (layers : List (List (Label S))) → HasFewNumbers is_state state_of → goal < NUMBER_LIMIT
-    → step + length layers ≤ NUMBER_LIMIT → label_count layers < NUMBER_LIMIT → AreLayersOf state_of tour step css layers → ((k : ℕ) → AreLabelsAt is_state tour goal (step + k) (layer_at layers k)) → AllByRecursion IsLayerForm css
-layers_form is_state state_of tour goal step [] layers few small room count of at = tt
-layers_form {S} is_state state_of tour goal step (cs ∷ css) layers few small room count of at =
+layers_form : {S : Type 0} (m : Machine S) (tour : Tour) (goal step : ℕ) (css : List (List CertLabel)) (layers : List (List (Label S))) → IsStateText m → goal < NUMBER_LIMIT
+    → step + length layers ≤ NUMBER_LIMIT → label_count layers < NUMBER_LIMIT → AreLayersOf m.state_of tour step css layers → ((k : ℕ) → AreLabelsAt m tour goal (step + k) (layer_at layers k)) → AllByRecursion IsLayerForm css
+layers_form m tour goal step [] layers text small room count of at = tt
+layers_form {S} m tour goal step (cs ∷ css) layers text small room count of at =
     let more : List (List (Label S)) = of.0 ∷ of.1 in
-    let there : (k : ℕ) → AreLabelsAt is_state tour goal (step + k) (layer_at more k) = subst (λ ls. (k : ℕ) → AreLabelsAt is_state tour goal (step + k) (layer_at ls k)) of.2 at in
+    let there : (k : ℕ) → AreLabelsAt m tour goal (step + k) (layer_at more k) = subst (λ ls. (k : ℕ) → AreLabelsAt m tour goal (step + k) (layer_at ls k)) of.2 at in
     let counted : label_count layers ≡ length of.0 + label_count of.1 = ap label_count of.2 ∙ sum_by-cons length of.0 of.1 in
     let long : length layers ≡ suc (length of.1) = ap length of.2 in
-    let same = same_labels state_of (minute_of tour step) cs of.0 of.3 in (
+    let same = same_labels m.state_of (minute_of tour step) cs of.0 of.3 in (
       record {
         few = omega (arith, count, counted, same);
-        labels = labels_form is_state state_of tour goal step cs of.0 few small (omega (arith, room, long)) of.3 (subst (λ k. AreLabelsAt is_state tour goal k of.0) (let here : step + 0 ≡ step = omega arith in here) (there 0));
+        labels = labels_form m tour goal step cs of.0 text small (omega (arith, room, long)) of.3 (subst (λ k. AreLabelsAt m tour goal k of.0) (let here : step + 0 ≡ step = omega arith in here) (there 0));
       },
-      layers_form is_state state_of tour goal (step + 1) css of.1 few small (omega (arith, room, long)) (omega (arith, count, counted)) of.4
-          (λ k. subst (λ i. AreLabelsAt is_state tour goal i (layer_at of.1 k)) (let next : step + suc k ≡ step + 1 + k = omega arith in next) (there (suc k))),
+      layers_form m tour goal (step + 1) css of.1 text small (omega (arith, room, long)) (omega (arith, count, counted)) of.4
+          (λ k. subst (λ i. AreLabelsAt m tour goal i (layer_at of.1 k)) (let next : step + suc k ≡ step + 1 + k = omega arith in next) (there (suc k))),
     )
 
 -- ---- the schedule
@@ -175,14 +174,14 @@ claimed state_of tour None listed cert is tells maximal solved =
 claimed state_of tour (Some best) listed cert is tells maximal solved =
     subst (λ k. IsClaimForm tour.params k cert.target cert.schedule cert.marks) (sym tells.kind) (claim_form tour cert best is tells.target tells.schedule maximal tells.marks solved)
 
-pub cert_form : {S : Type 0} (is_state : S → ℕ → Type 0) (state_of : List ℕ → ℕ → Option S) (tour : Tour) (goal : ℕ) (best : Option Schedule) (listed : List (List (Label S))) (cert : Cert) → IsTour tour → HasFewNumbers is_state state_of → goal < NUMBER_LIMIT
-    → length listed < NUMBER_LIMIT → label_count listed < NUMBER_LIMIT → ((k : ℕ) → AreLabelsAt is_state tour goal k (layer_at listed k)) → Tells state_of tour best listed cert → AreMaximal None cert.schedule → IsSolved tour best → IsCertForm tour.params cert
-cert_form is_state state_of tour goal best listed cert is few small few_layers count at tells maximal solved =
-    let long = same_long state_of tour 0 cert.layers listed tells.layers in
+pub cert_form : {S : Type 0} (m : Machine S) (tour : Tour) (goal : ℕ) (best : Option Schedule) (listed : List (List (Label S))) (cert : Cert) → IsTour tour → IsStateText m → goal < NUMBER_LIMIT
+    → length listed < NUMBER_LIMIT → label_count listed < NUMBER_LIMIT → ((k : ℕ) → AreLabelsAt m tour goal k (layer_at listed k)) → Tells m.state_of tour best listed cert → AreMaximal None cert.schedule → IsSolved tour best → IsCertForm tour.params cert
+cert_form m tour goal best listed cert is text small few_layers count at tells maximal solved =
+    let long = same_long m.state_of tour 0 cert.layers listed tells.layers in
     record {
-      claim = claimed state_of tour best listed cert is tells maximal solved;
+      claim = claimed m.state_of tour best listed cert is tells maximal solved;
       few = omega (arith, long, few_layers);
-      layers = layers_form is_state state_of tour goal 0 cert.layers listed few small (omega (arith, few_layers)) count tells.layers (λ k. subst (λ i. AreLabelsAt is_state tour goal i (layer_at listed k)) (let same : k ≡ 0 + k = omega arith in same) (at k));
+      layers = layers_form m tour goal 0 cert.layers listed text small (omega (arith, few_layers)) count tells.layers (λ k. subst (λ i. AreLabelsAt m tour goal i (layer_at listed k)) (let same : k ≡ 0 + k = omega arith in same) (at k));
     }
 
 -- ---- what a search keeps
@@ -198,12 +197,12 @@ same_kept (layer ∷ layers) =
     omega (arith, left, right, first, later)
 
 -- the certificate of the layers that a search keeps
-pub kept_form : {S : Type 0} (is_state : S → ℕ → Type 0) (state_of : List ℕ → ℕ → Option S) (tour : Tour) (best told : Option Schedule) (kept : List (List (Kept S))) (cert : Cert) → IsTour tour → HasFewNumbers is_state state_of → length kept ≤ LAYER_LIMIT
-    → ((k : ℕ) → AreLabelsAt is_state tour (word_length tour) k (layer_at (label_layers kept) k)) → Tells state_of tour best (label_layers kept) cert → AreMaximal None cert.schedule → told ≡ best → IsSolved tour told → label_count kept < NUMBER_LIMIT → IsCertForm tour.params cert
-kept_form is_state state_of tour best told kept cert is few layers at tells maximal same solved count =
+pub kept_form : {S : Type 0} (m : Machine S) (tour : Tour) (best told : Option Schedule) (kept : List (List (Kept S))) (cert : Cert) → IsTour tour → IsStateText m → length kept ≤ LAYER_LIMIT
+    → ((k : ℕ) → AreLabelsAt m tour (word_length tour) k (layer_at (label_layers kept) k)) → Tells m.state_of tour best (label_layers kept) cert → AreMaximal None cert.schedule → told ≡ best → IsSolved tour told → label_count kept < NUMBER_LIMIT → IsCertForm tour.params cert
+kept_form m tour best told kept cert is text layers at tells maximal same solved count =
     let long : length (label_layers kept) ≡ length kept = length-map kept labels_of in
     let counted = same_kept kept in
-    cert_form is_state state_of tour (word_length tour) best (label_layers kept) cert is few (word_few tour is) (omega (arith, long, layers)) (omega (arith, count, counted)) at tells maximal (subst (IsSolved tour) same solved)
+    cert_form m tour (word_length tour) best (label_layers kept) cert is text (word_few tour is) (omega (arith, long, layers)) (omega (arith, count, counted)) at tells maximal (subst (IsSolved tour) same solved)
 
 -- ---- what two facts say of a result
 

@@ -18,16 +18,16 @@ use Rattle.duty_core.specs.Day.{day_start, day_number}
 use Rattle.duty_core.specs.History.{pad_days, padded}
 use Rattle.duty_core.specs.Marks.{mark_minute, AreInOrder}
 use Rattle.duty_core.specs.MarkMeaning.{StandsIn}
-use Rattle.duty_core.specs.MarkListLaws.{contains_head, contains_behind}
+use Rattle.duty_core.specs.Laws.MarkListLaws.{contains_head, contains_after}
 use Rattle.duty_core.specs.RestRun.{IsRun}
 use Rattle.duty_core.specs.declared.params.RestWay.{RestWay}
-use Rattle.duty_core.specs.BookLaws.{are_true}
+use Rattle.duty_core.specs.Laws.BookLaws.{are_true}
 use Rattle.duty_core.specs.Lawful.{IsLawfulWith}
 use Rattle.duty_core.specs.Params.{AreGoodParams}
 use Rattle.civil_minutes.specs.declared.century.TheConstants.{MINUTES_OF_CENTURY}
 use Rattle.rule_core.specs.declared.numbers.TheConstants.{NUMBER_LIMIT}
 use Rattle.cert_text.specs.Form.{AreMarkForms}
-use Rattle.cert_text.specs.MarkTextLaws.{one_minute}
+use Rattle.cert_text.specs.Laws.MarkTextLaws.{one_minute}
 
 -- a mark at a minute from lo on and before hi
 record Stands (params : Params) (lo hi : ℕ) (mark : Mark) : Type 0 where
@@ -123,7 +123,7 @@ forms_of params lo hi least (mark ∷ marks) century order stands late =
     let high = s.high in
     let minute = s.minute in (
       record { at = s.at; minute = s.minute; late = late mark s.at (contains_head mark marks) s.minute; century = omega (arith, high, century) },
-      forms_of params lo hi (s.at + 1) marks century (λ i j d l m. order (suc i) (suc j) d (omega arith) (omega arith)) (λ m c. stands m (contains_behind mark marks m c))
+      forms_of params lo hi (s.at + 1) marks century (λ i j d l m. order (suc i) (suc j) d (omega arith) (omega arith)) (λ m c. stands m (contains_after mark marks m c))
           (λ m at c e.
           let inside = c.1 in
           let before : mark_minute params mark <ℤ mark_minute params m = subst (λ o. mark_minute params mark <ℤ mark_minute params o) c.2 (order 0 (suc c.0) m (omega arith) (omega (arith, inside))) in
@@ -141,7 +141,7 @@ few_marks params lo hi least (mark ∷ marks) le stands forms =
     let form = forms.0 in
     let late = form.late in
     let same = one_minute params mark form.at s.at form.minute s.minute in
-    let rest = few_marks params lo hi (form.at + 1) marks (omega (arith, high, same)) (λ m c. stands m (contains_behind mark marks m c)) forms.1 in
+    let rest = few_marks params lo hi (form.at + 1) marks (omega (arith, high, same)) (λ m c. stands m (contains_after mark marks m c)) forms.1 in
     omega (arith, rest, late)
 
 from_nought : (params : Params) (least : ℕ) (marks : List Mark) → AreMarkForms params least marks → AreMarkForms params 0 marks

@@ -19,7 +19,7 @@ pub maximal_longer : (before : Option Activity) (runs : List StepRun) (r s : Ste
 maximal_longer before [] r s h same some = (some, subst (λ a. before ≢ Some a) same h.1, tt)
 maximal_longer before (x ∷ runs) r s h same some = (h.0, h.1, maximal_longer (Some x.act) runs r s h.2 same some)
 
--- the steps of a run and of those behind it
+-- the steps of a run and of those after it
 steps_of_run : (r : StepRun) (runs : List StepRun) → length (acts_of_runs (r ∷ runs)) ≡ r.count + length (acts_of_runs runs)
 steps_of_run r runs =
     let a = ap length (flat_map-cons (λ (x : StepRun). replicate x.count x.act) r runs) in

@@ -4,6 +4,7 @@ use Rattle.duty_core.specs.declared.activity.Activity.{Activity}
 use Rattle.duty_core.specs.declared.limits.TheConstants.{LONGEST_LOG}
 use Rattle.duty_core.specs.declared.mark.Mark.{Mark}
 use Rattle.duty_core.specs.Params.{unit_minutes}
+use Rattle.rule_core.specs.Machine.{Machine}
 use Rattle.tour_model.specs.declared.label.Label.{Label}
 use Rattle.tour_model.specs.declared.schedule.Schedule.{Schedule}
 use Rattle.tour_model.specs.declared.tour.Tour.{Tour}
@@ -11,16 +12,15 @@ use Rattle.tour_model.specs.Schedule.{duration, IsSolutionWith}
 use Rattle.cert_text.specs.declared.cert.Cert.{Cert}
 use Rattle.cert_text.specs.declared.cert.CertKind.{CertKind}
 use Rattle.cert_text.specs.declared.cert.CertKind.TheVariants.{Shortest, Infeasible}
-use Rattle.cert_text.specs.Problem.{Problem}
-use Rattle.cert_text.specs.Planning.{state_at}
+use Rattle.cert_text.specs.Planning.{problem_of, state_at, IsLogState}
 use Rattle.cert_text.specs.Cover.{IsCoverList}
 use Rattle.cert_text.specs.Cert.{acts_of_runs, AreLayersOf}
 
--- The layers prove the answer behind the log: this schedule, with its marks, is a solution, and none is shorter; or there is none.
-abbrev pub ProveAnswer : {S : Type 0} → Tour → List Activity → Problem S → (S → ℕ → Type 0) → (S → Type 0) → Option Schedule → List (List (Label S)) → Type 0
-ProveAnswer tour log problem is_state starts None layers = IsCoverList problem (state_at tour is_state) starts None layers
-ProveAnswer tour log problem is_state starts (Some best) layers =
-    IsSolutionWith tour log best.steps best.marks × IsCoverList problem (state_at tour is_state) starts (Some (duration best.steps)) layers
+-- The layers prove the answer after the log: this schedule, with its marks, is a solution, and none is shorter; or there is none.
+abbrev pub ProveAnswer : {S : Type 0} → Tour → List Activity → Machine S → Option Schedule → List (List (Label S)) → Type 0
+ProveAnswer tour log m None layers = IsCoverList (problem_of tour m) (state_at tour m) (IsLogState tour log m) None layers
+ProveAnswer tour log m (Some best) layers =
+    IsSolutionWith tour log best.steps best.marks × IsCoverList (problem_of tour m) (state_at tour m) (IsLogState tour log m) (Some (duration best.steps)) layers
 
 -- what a certificate says of the best schedule, where there is one
 abbrev pub kind_of : Option Schedule → CertKind
@@ -47,7 +47,7 @@ pub record Tells {S : Type 0} (state_of : List ℕ → ℕ → Option S) (tour :
   pub marks : cert.marks ≡ marks_of best
   pub layers : AreLayersOf state_of tour 0 cert.layers listed
 
--- The schedule, where there is one, is a solution with its marks, behind some log that is not too long.
+-- The schedule, where there is one, is a solution with its marks, after some log that is not too long.
 abbrev pub IsSolved : Tour → Option Schedule → Type 0
 IsSolved tour None = Unit {0}
 IsSolved tour (Some best) = (log : List Activity) × (unit_minutes tour.params * length log ≤ LONGEST_LOG) × IsSolutionWith tour log best.steps best.marks

@@ -5,7 +5,7 @@ use Rattle.duty_core.specs.declared.activity.Activity.{Activity}
 use Rattle.cert_text.specs.declared.cert.StepRun.{StepRun}
 use Rattle.cert_text.specs.Cert.{acts_of_runs}
 
--- the activities of the runs, and behind them those of the last one
+-- the activities of the runs, and after them those of the last one
 abbrev pub acts_so_far : List StepRun → Option StepRun → List Activity
 acts_so_far runs last = acts_of_runs runs ++ acts_of_runs (option_to_list last)
 
@@ -14,7 +14,7 @@ abbrev pub count_of : Option StepRun → ℕ
 count_of None = 0
 count_of (Some run) = run.count
 
--- runs behind one of this activity: each has some steps, and is of another activity than its neighbours
+-- runs after one of this activity: each has some steps, and is of another activity than its neighbours
 abbrev pub AreMaximal : Option Activity → List StepRun → Type 0
 AreMaximal before [] = Unit {0}
 AreMaximal before (run ∷ more) = (1 ≤ run.count) × (before ≢ Some run.act) × AreMaximal (Some run.act) more

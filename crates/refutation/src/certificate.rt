@@ -6,11 +6,11 @@ ghost use Rattle.rule_core.specs.declared.numbers.TheConstants.{NUMBER_LIMIT};
 ghost use Rattle.rule_core.specs.Reach.{IsOneOf};
 ghost use Rattle.tour_model.specs.declared.label.Label.{Label};
 ghost use Rattle.tour_model.specs.Layer.{layer_at};
-ghost use Rattle.tour_model.specs.Schedule.{log_start, duration};
+ghost use Rattle.tour_model.specs.Schedule.{duration};
 ghost use Rattle.tour_model.specs.Tour.{IsTour};
 ghost use Rattle.tour_model.specs.Word.{word_length};
 ghost use Rattle.label_state.specs.Layers.{label_layers, label_count};
-ghost use Rattle.cert_text.specs.Planning.{problem_of, state_at, IsLogState};
+ghost use Rattle.cert_text.specs.Planning.{state_at};
 ghost use Rattle.cert_text.specs.Cover.{IsLabelAt};
 ghost use Rattle.cert_text.specs.declared.cert.CertKind.TheVariants.{Shortest, Infeasible};
 ghost use Rattle.cert_text.specs.Cert.{IsValidCert, acts_of_runs};
@@ -70,7 +70,7 @@ fn shortest(alloc: Global, best: &Schedule, layers: CertLayers) -> Result<Cert, 
 ///
 /// So it is valid for each log for which the layers are a cover list for that target and `best`,
 /// where it is given, is a solution with its marks. It has a text where `best` is such a solution
-/// behind some log, and there are fewer than 1,000,000 labels. The schedule has fewer than 4,294,967,295 steps.
+/// after some log, and there are fewer than 1,000,000 labels. The schedule has fewer than 4,294,967,295 steps.
 pub fn refute<B: RuleBook>(
     alloc: Global,
     book: &B,
@@ -80,18 +80,16 @@ pub fn refute<B: RuleBook>(
 ) -> Result<Cert, NoMemory>
     requires tour { IsTour tour.now }
     requires labels { (step : ℕ) (l : Label B.State) → IsOneOf (layer_at (label_layers layers.now) step) l →
-        IsLabelAt (state_at tour.now (B.is_state_at book.now)) (word_length tour.now) step l }
+        IsLabelAt (state_at tour.now (B.machine book.now)) (word_length tour.now) step l }
     requires few { length (steps_of (option_copied best)) + 1 < 2 ^ 32 }
-    ensures tells { IfOk result (λ cert. Tells (B.state_of book.now) tour.now (option_copied best.entry) (label_layers layers.now) cert) }
+    ensures tells { IfOk result (λ cert. Tells (B.machine book.now).state_of tour.now (option_copied best.entry) (label_layers layers.now) cert) }
     // It has as many labels as the layers.
     ensures labels { IfOk result (λ cert. sum_by length cert.layers ≡ label_count layers.now) }
     // It has a text.
     ensures form { IfOk result (λ cert. IsSolved tour.now (option_copied best.entry) → label_count layers.now < NUMBER_LIMIT → IsCertForm tour.now.params cert) }
     ensures valid { IfOk result (λ cert. (log : List Activity) →
-        ProveAnswer tour.now log (problem_of tour.now (B.advances_of book.now) (B.covering book.now) (B.idles_of book.now)) (B.is_state_at book.now)
-        (IsLogState tour.now log (B.root_of book.now (log_start tour.now log)) (B.nexts_of book.now)) (option_copied best.entry) (label_layers layers.now) →
-        IsValidCert tour.now log (problem_of tour.now (B.advances_of book.now) (B.covering book.now) (B.idles_of book.now)) (B.is_state_at book.now)
-        (IsLogState tour.now log (B.root_of book.now (log_start tour.now log)) (B.nexts_of book.now)) (B.state_of book.now) cert) }
+        ProveAnswer tour.now log (B.machine book.now) (option_copied best.entry) (label_layers layers.now) →
+        IsValidCert tour.now log (B.machine book.now) cert) }
 {
     let layers = layers_of(alloc, book, tour, layers)?;
     match best {

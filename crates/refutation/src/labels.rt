@@ -23,8 +23,8 @@ fn label_of<B: RuleBook>(
     at: Minute,
     label: &Label<B::State>,
 ) -> Result<CertLabel, NoMemory>
-    requires { B.is_state_at book.now label.now.state at }
-    ensures { IfOk result (λ c. IsLabelOf (B.state_of book.now) at c label.now) }
+    requires { (B.machine book.now).is_state label.now.state at }
+    ensures { IfOk result (λ c. IsLabelOf (B.machine book.now).state_of at c label.now) }
 {
     let mut numbers = Numbers::new(alloc);
     book.write_state(&label.state, at, &mut numbers)?;
@@ -42,8 +42,8 @@ fn layer_of<B: RuleBook>(
     at: Minute,
     layer: &[Kept<B::State>],
 ) -> Result<CertLabels, NoMemory>
-    requires { (l : Label B.State) → IsOneOf (labels_of layer.now) l → B.is_state_at book.now l.state at }
-    ensures { IfOk result (λ cs. AreLabelsOf (B.state_of book.now) at cs (labels_of layer.now)) }
+    requires { (l : Label B.State) → IsOneOf (labels_of layer.now) l → (B.machine book.now).is_state l.state at }
+    ensures { IfOk result (λ cs. AreLabelsOf (B.machine book.now).state_of at cs (labels_of layer.now)) }
 {
     let mut labels = CertLabels::new(alloc);
     for kept in layer {
@@ -60,8 +60,8 @@ pub fn layers_of<B: RuleBook>(
     layers: &Layers<B::State>,
 ) -> Result<CertLayers, NoMemory>
     requires tour { IsTour tour.now }
-    requires states { (step : ℕ) (l : Label B.State) → IsOneOf (labels_of (layer_at layers.now step)) l → B.is_state_at book.now l.state (minute_of tour.now step) }
-    ensures written { IfOk result (λ cs. AreLayersOf (B.state_of book.now) tour.now 0 cs (label_layers layers.now)) }
+    requires states { (step : ℕ) (l : Label B.State) → IsOneOf (labels_of (layer_at layers.now step)) l → (B.machine book.now).is_state l.state (minute_of tour.now step) }
+    ensures written { IfOk result (λ cs. AreLayersOf (B.machine book.now).state_of tour.now 0 cs (label_layers layers.now)) }
     ensures few { length layers.now ≤ LAYER_LIMIT }
 {
     let mut list = CertLayers::new(alloc);

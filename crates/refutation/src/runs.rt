@@ -7,7 +7,7 @@ use cert_text::{StepRun, StepRuns};
 use duty_core::{Activity, NoMemory};
 use std::alloc::Global;
 
-/// The last run of the steps with one more behind them. The run before it is put behind the others
+/// The last run of the steps with one more after them. The run before it is put after the others
 /// where the step is of another activity.
 fn add_step(runs: &mut StepRuns, last: Option<StepRun>, act: Activity) -> Result<StepRun, NoMemory>
     requires { count_of last + 1 < 2 ^ 32 }

@@ -9,7 +9,7 @@ use Rattle.duty_core.specs.declared.activity.Activity.{Activity}
 use Rattle.duty_core.specs.declared.mark.Mark.{Mark}
 use Rattle.rule_core.specs.declared.roots.Root.{Root}
 use Rattle.rule_core.specs.Reach.{IsOneOf}
-use Rattle.rule_core.specs.OneOf.{one_of_item}
+use Rattle.rule_core.specs.Laws.OneOf.{one_of_item}
 use Rattle.tour_model.specs.Layer.{layer_at}
 use Rattle.label_state.specs.declared.kept.Kept.{Kept}
 use Rattle.label_state.specs.Path.{kept_at, parent_of, acts_of, marks_of, root_of, path_of, way_marks, root_marks, path_marks, HaveParents}
@@ -21,7 +21,7 @@ within_layers layers step i lt = elim (cases_lt step (length layers)) [
   | inr l ↦ absurd (let e : length (layer_at layers step) ≡ 0 = ap length (get_or_past layers step [] l) in omega arith)
 ]
 
--- What is known on the way back: the path, the marks and the root of the place are those of the label at hand, with what was gathered behind.
+-- What is known on the way back: the path, the marks and the root of the place are those of the label at hand, with what was gathered after.
 pub record IsGoingBack {S : Type 0} (layers : List (List (Kept S))) (step index at place : ℕ) (acts : List Activity) (marks : List Mark) : Type 0 where
   pub there : place < length (layer_at layers at)
   pub path : path_of layers step index ≡ path_of layers at place ++ reverse acts

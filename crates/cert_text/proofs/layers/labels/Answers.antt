@@ -11,7 +11,7 @@ returns-in_err-next c =
     rw (p.1, p.2) (ends (λ (l : CertLabel). l) (λ (s : ℕ). label_at) (λ s l. s) 0 c.in_err-next.field-0.0 c.loop.labels c.args.count c.loop.counter c.loop.rest.now (labels_at c.args.count c.args.bytes.now) c.loop-test.true c.in_err-next.ensures c.loop.invariant)
 
 pub loop-preserved : goal.loop-preserved
-loop-preserved c = rw c.in_ok-push.ensures.ok (goes_on (λ (l : CertLabel). l) (λ (s : ℕ). label_at) (λ s l. s) 0 c.loop.labels c.args.count c.loop.counter c.loop.rest.now c.in_ok-next.next c.in_ok-next.behind.now (labels_at c.args.count c.args.bytes.now) c.loop-test.true c.in_ok-next.ensures c.loop.invariant)
+loop-preserved c = rw c.in_ok-push.ensures.ok (goes_on (λ (l : CertLabel). l) (λ (s : ℕ). label_at) (λ s l. s) 0 c.loop.labels c.args.count c.loop.counter c.loop.rest.now c.in_ok-next.next c.in_ok-next.thereafter.now (labels_at c.args.count c.args.bytes.now) c.loop-test.true c.in_ok-next.ensures c.loop.invariant)
 
 pub returns : goal.returns
 returns c = is_done (λ (l : CertLabel). l) (λ (s : ℕ). label_at) (λ s l. s) 0 c.loop.labels c.args.count c.loop.counter c.loop.rest.now (labels_at c.args.count c.args.bytes.now) c.loop-test.false c.loop.invariant

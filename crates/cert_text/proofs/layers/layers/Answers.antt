@@ -11,7 +11,7 @@ returns-in_err-next c =
     rw (p.1, p.2) (ends (λ (l : List CertLabel). l) layer_at (λ s l. s + 1) c.loop-step.step c.in_err-next.field-0.0 c.loop-step.layers c.args.count c.loop-step.step c.loop-step.rest.now (layers_at c.args.count c.args.bytes.now) c.loop-step-test.true c.in_err-next.ensures c.loop-step.invariant)
 
 pub loop-step-preserved : goal.loop-step-preserved
-loop-step-preserved c = rw c.in_ok-push.ensures.ok (goes_on (λ (l : List CertLabel). l) layer_at (λ s l. s + 1) c.loop-step.step c.loop-step.layers c.args.count c.loop-step.step c.loop-step.rest.now c.in_ok-next.next c.in_ok-next.behind.now (layers_at c.args.count c.args.bytes.now) c.loop-step-test.true c.in_ok-next.ensures c.loop-step.invariant)
+loop-step-preserved c = rw c.in_ok-push.ensures.ok (goes_on (λ (l : List CertLabel). l) layer_at (λ s l. s + 1) c.loop-step.step c.loop-step.layers c.args.count c.loop-step.step c.loop-step.rest.now c.in_ok-next.next c.in_ok-next.thereafter.now (layers_at c.args.count c.args.bytes.now) c.loop-step-test.true c.in_ok-next.ensures c.loop-step.invariant)
 
 pub returns : goal.returns
 returns c = is_done (λ (l : List CertLabel). l) layer_at (λ s l. s + 1) c.loop-step.step c.loop-step.layers c.args.count c.loop-step.step c.loop-step.rest.now (layers_at c.args.count c.args.bytes.now) c.loop-step-test.false c.loop-step.invariant

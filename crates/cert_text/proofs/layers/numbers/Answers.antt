@@ -12,7 +12,7 @@ returns-in_err-next c =
 
 pub loop-preserved : goal.loop-preserved
 loop-preserved c =
-    rw c.in_ok-push.ensures.ok (number_more c.loop.numbers MOST_NUMBERS c.loop.counter c.loop.rest.now c.in-Some.digits.now c.in_ok-next.next c.in_ok-next.behind.now (numbers_at MOST_NUMBERS c.args.bytes.now) c.loop-test.true c.in-Some.ensures c.in_ok-next.ensures c.loop.invariant)
+    rw c.in_ok-push.ensures.ok (number_more c.loop.numbers MOST_NUMBERS c.loop.counter c.loop.rest.now c.in-Some.digits.now c.in_ok-next.next c.in_ok-next.thereafter.now (numbers_at MOST_NUMBERS c.args.bytes.now) c.loop-test.true c.in-Some.ensures c.in_ok-next.ensures c.loop.invariant)
 
 pub returns : goal.returns
 returns c =

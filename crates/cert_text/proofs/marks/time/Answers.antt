@@ -1,5 +1,5 @@
 use Rattle.std.proofs.Common.{◌∙◌, length, ap}
-use Rattle.civil_minutes.specs.TimeOfLaws.{read_time}
+use Rattle.civil_minutes.specs.Laws.TimeOfLaws.{read_time}
 use Rattle.cert_text.specs.Reading.{time_is}
 use Rattle.std.specs.Result.{result_ok}
 use Rattle.cert_text.proofs.TimeRead.{time_read}

@@ -1,5 +1,5 @@
 use Rattle.std.proofs.Common.{sym, subst}
-use Rattle.cert_text.specs.CertTextLaws.{cert_takes}
+use Rattle.cert_text.specs.Laws.CertTextLaws.{cert_takes}
 use Rattle.cert_text.specs.BadLine.{IsBadLine}
 use Rattle.cert_text.proofs.FirstBad.{bad_line}
 use Rattle.cert_text.proofs.ReadOnce.{start_low, one_cert, not_left}

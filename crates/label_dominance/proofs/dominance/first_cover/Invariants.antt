@@ -4,4 +4,4 @@ use Rattle.label_dominance.proofs.dominance.first_cover.Given as goal
 
 abbrev pub invariant-loop-place : goal.invariant-loop-place
 invariant-loop-place g l =
-    NoneAt (problem_of l.tour (g.B.RuleBook.advances_of l.book) (g.B.RuleBook.covering l.book) (g.B.RuleBook.idles_of l.book)) l.step l.layer l.places l.label l.place-index
+    NoneAt (problem_of l.tour (g.B.RuleBook.machine l.book)) l.step l.layer l.places l.label l.place-index

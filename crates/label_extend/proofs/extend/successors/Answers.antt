@@ -1,20 +1,22 @@
 use Rattle.std.proofs.Common.{◌≡◌, ◌+◌, [], ◌∷◌, ◌++◌, append-nil, sym, ap, ◌∙◌, subst}
 use Rattle.std.specs.Option.{option_to_list}
-use Rattle.duty_core.specs.Params.{unit_minutes}
 use Rattle.rule_core.specs.Reach.{idle_list}
+use Rattle.rule_core.specs.Book.{IsBook}
 use Rattle.tour_model.specs.Word.{word_length}
 use Rattle.cert_text.specs.Problem.{grown_by, successors_of}
 use Rattle.cert_text.specs.Planning.{problem_of, state_at}
 use Rattle.label_extend.specs.Growths.{AreGrownAt}
-use Rattle.label_extend.specs.GrowthLaws.{successors_built, finished_none, grown_label}
+use Rattle.label_extend.specs.Laws.GrowthLaws.{successors_built, finished_none, grown_label}
 use Rattle.label_extend.proofs.extend.successors.Goals as goal
 use Rattle.label_extend.proofs.extend.successors.Goals.{in-Some+in_ok-push_by-4, in_default}
 
 pub returns : goal.returns
 returns g c =
     let book = c.args.book.now in
-    let problem = problem_of c.args.tour.now (g.B.RuleBook.advances_of book) (g.B.RuleBook.covering book) (g.B.RuleBook.idles_of book) in
     let tour = c.args.tour.now in
+    let m = g.B.RuleBook.machine book in
+    let law = subst (λ params. IsBook params m) c.requires.params (g.met.B.RuleBook.laws book) in
+    let problem = problem_of tour m in
     let first = c.idles-first.result.first in
     let tries = ap idle_list (sym c.idles-first.ensures) in
     let exact : c.match-second.list ≡ successors_of problem c.args.step c.args.label.now =
@@ -28,8 +30,7 @@ returns g c =
     ] in
     record {
       exact = exact;
-      labels = λ h. subst (AreGrownAt (state_at tour (g.B.RuleBook.is_state_at book)) (word_length tour) (c.args.step + 1)) (sym exact)
-          (grown_label tour _ (g.B.RuleBook.advances_of book) (g.B.RuleBook.nexts_of book) (g.B.RuleBook.covering book) (g.B.RuleBook.idles_of book) (g.B.RuleBook.is_state_at book) c.requires.tour
-          (ap unit_minutes (sym c.requires.params)) (g.met.B.RuleBook.next_is_state book) (g.met.B.RuleBook.advances_reach book) c.args.step c.args.label.now h);
-      finished = λ e. exact ∙ finished_none tour (g.B.RuleBook.advances_of book) (g.B.RuleBook.covering book) (g.B.RuleBook.idles_of book) c.args.step c.args.label.now e;
+      labels = λ h. subst (AreGrownAt (state_at tour m) (word_length tour) (c.args.step + 1)) (sym exact)
+          (grown_label tour m law c.requires.tour c.args.step c.args.label.now h);
+      finished = λ e. exact ∙ finished_none tour m c.args.step c.args.label.now e;
     }

@@ -6,7 +6,7 @@ use Rattle.label_search.proofs.by_layers.search.Given as goal
 
 abbrev pub invariant-loop-alloc : goal.invariant-loop-alloc
 invariant-loop-alloc g l =
-    IsSearching (problem_of l.tour (g.B.RuleBook.advances_of l.book) (g.B.RuleBook.covering l.book) (g.B.RuleBook.idles_of l.book)) l.roots (state_at l.tour (g.B.RuleBook.is_state_at l.book))
+    IsSearching (problem_of l.tour (g.B.RuleBook.machine l.book)) l.roots (state_at l.tour (g.B.RuleBook.machine l.book))
     l.budget l.step l.initial.best.limit l.best l.layers
 
 abbrev pub decreases-loop-alloc : goal.decreases-loop-alloc

@@ -6,5 +6,5 @@ abbrev pub invariant-loop-kept : goal.invariant-loop-kept
 invariant-loop-kept g l = record {
   can : (goal.iterator-loop-kept g).can_next l.kept-iterator;
   finite : (goal.iterator-loop-kept g).is_finite l.kept-iterator;
-  added : AddsLayer (problem_of l.tour (g.B.RuleBook.advances_of l.book) (g.B.RuleBook.covering l.book) (g.B.RuleBook.idles_of l.book)) l.budget l.yielded l.fn.layers l.layers;
+  added : AddsLayer (problem_of l.tour (g.B.RuleBook.machine l.book)) l.budget l.yielded l.fn.layers l.layers;
 }

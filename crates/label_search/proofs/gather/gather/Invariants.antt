@@ -7,6 +7,6 @@ use Rattle.label_search.proofs.gather.gather.Given as goal
 
 abbrev pub invariant-loop-index : goal.invariant-loop-index
 invariant-loop-index g l = record {
-  gathered : IsGathering (problem_of l.tour (g.B.RuleBook.advances_of l.book) (g.B.RuleBook.covering l.book) (g.B.RuleBook.idles_of l.book)) l.limit l.step l.layer (take l.index l.layer) l.list.items;
-  labels : AreLabelsAt (state_at l.tour (g.B.RuleBook.is_state_at l.book)) (word_length l.tour) (l.step + 1) l.list.items;
+  gathered : IsGathering (problem_of l.tour (g.B.RuleBook.machine l.book)) l.limit l.step l.layer (take l.index l.layer) l.list.items;
+  labels : AreLabelsAt (state_at l.tour (g.B.RuleBook.machine l.book)) (word_length l.tour) (l.step + 1) l.list.items;
 }

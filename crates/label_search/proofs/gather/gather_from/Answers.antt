@@ -3,17 +3,17 @@ use Rattle.std.proofs.lemmas.List.{map-id}
 use Rattle.std.proofs.lemmas.Iterator.Adapters.{YieldsList-from_vec}
 use Rattle.std.proofs.lemmas.Iterator.Consumers.{YieldsList-turn, YieldsList-end}
 use Rattle.rule_core.specs.Reach.{IsOneOf}
-use Rattle.rule_core.specs.OneOf.{one_of_item}
+use Rattle.rule_core.specs.Laws.OneOf.{one_of_item}
 use Rattle.tour_model.specs.Word.{word_length}
 use Rattle.cert_text.specs.Planning.{problem_of, state_at}
 use Rattle.cert_text.specs.Cover.{IsLabelAt}
 use Rattle.label_search.specs.Searching.{Gathers, is_useful}
-use Rattle.label_search.proofs.GatherLaws.{gathers_on, gathers_pushed, gathers_let_off, useless_let_off}
+use Rattle.label_search.proofs.GatherLaws.{gathers_on, gathers_pushed, gathers_pruned, useless_pruned}
 use Rattle.label_search.proofs.gather.gather_from.Goals as goal
 use Rattle.label_search.proofs.gather.gather_from.Goals.{In-Some}
 
 -- this iteration's successor is a label of the next step
-label_of : (g : _) (c : In-Some g) → IsLabelAt (state_at c.args.tour.now (g.B.RuleBook.is_state_at c.args.book.now)) (word_length c.args.tour.now) (c.args.step + 1) c.in-Some.grown.label
+label_of : (g : _) (c : In-Some g) → IsLabelAt (state_at c.args.tour.now (g.B.RuleBook.machine c.args.book.now)) (word_length c.args.tour.now) (c.args.step + 1) c.in-Some.grown.label
 label_of g c =
     let xs = c.into_vec-grown-items.result.items in
     let i = c.into_iter-grown-iterator.ensures.into_iter_gives in
@@ -25,7 +25,7 @@ eta-eta-requires-clause-progress g c = (label_of g (goal.at.eta-eta-requires-cla
 
 pub loop-grown-preserved-in_ok-push : goal.loop-grown-preserved-in_ok-push
 loop-grown-preserved-in_ok-push g c =
-    let problem = problem_of c.args.tour.now (g.B.RuleBook.advances_of c.args.book.now) (g.B.RuleBook.covering c.args.book.now) (g.B.RuleBook.idles_of c.args.book.now) in
+    let problem = problem_of c.args.tour.now (g.B.RuleBook.machine c.args.book.now) in
     let l = c.in-Some.grown.label in
     record {
       can = tt;
@@ -38,19 +38,19 @@ loop-grown-preserved-in_ok-push g c =
 
 pub loop-grown-preserved : goal.loop-grown-preserved
 loop-grown-preserved g c =
-    let problem = problem_of c.args.tour.now (g.B.RuleBook.advances_of c.args.book.now) (g.B.RuleBook.covering c.args.book.now) (g.B.RuleBook.idles_of c.args.book.now) in
+    let problem = problem_of c.args.tour.now (g.B.RuleBook.machine c.args.book.now) in
     let l = c.in-Some.grown.label in
     record {
       can = tt;
       finite = tt;
       gathered = gathers_on problem c.args.limit (c.args.step + 1) c.args.parent c.loop-grown.yielded (c.in-Some.grown ∷ []) c.args.list.now.items c.loop-grown.list.items c.loop-grown.list.items c.loop-grown.invariant.gathered
-          (gathers_let_off problem c.args.limit (c.args.step + 1) c.args.parent c.in-Some.grown c.loop-grown.list.items
-          (useless_let_off problem c.args.limit (c.args.step + 1) l (sym (ap (is_useful c.args.limit l.depart) c.eta-eta.ensures.value) ∙ (sym c.is_worth_keeping.ensures ∙ c.if-is_worth_keeping.false))));
+          (gathers_pruned problem c.args.limit (c.args.step + 1) c.args.parent c.in-Some.grown c.loop-grown.list.items
+          (useless_pruned problem c.args.limit (c.args.step + 1) l (sym (ap (is_useful c.args.limit l.depart) c.eta-eta.ensures.value) ∙ (sym c.is_worth_keeping.ensures ∙ c.if-is_worth_keeping.false))));
     }
 
 pub returns : goal.returns
 returns g c =
-    let problem = problem_of c.args.tour.now (g.B.RuleBook.advances_of c.args.book.now) (g.B.RuleBook.covering c.args.book.now) (g.B.RuleBook.idles_of c.args.book.now) in
+    let problem = problem_of c.args.tour.now (g.B.RuleBook.machine c.args.book.now) in
     let xs = c.into_vec-grown-items.result.items in
     let i = c.into_iter-grown-iterator.ensures.into_iter_gives in
     let t = YieldsList-end (YieldsList-from_vec {s = c.into_iter-grown-iterator.result} xs i.0 (omega arith)) c.loop-grown.yielded c.loop-grown.grown-iterator c.loop-grown.yielded_by c.next.result c.next.new.self c.in-None.is c.next.ensures.steps in

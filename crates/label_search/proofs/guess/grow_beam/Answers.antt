@@ -1,4 +1,4 @@
-use Rattle.rule_core.specs.OneOf.{one_of_item}
+use Rattle.rule_core.specs.Laws.OneOf.{one_of_item}
 use Rattle.label_search.proofs.guess.grow_beam.Goals as goal
 
 pub grow_label-requires-clause-label : goal.grow_label-requires-clause-label

@@ -6,4 +6,4 @@ use Rattle.label_search.specs.Ways.{AreRankedReached}
 use Rattle.label_search.proofs.guess.grow_beam.Given as goal
 
 abbrev pub invariant-loop-label : goal.invariant-loop-label
-invariant-loop-label g l = AreRankedReached (problem_of l.tour (g.B.RuleBook.advances_of l.book) (g.B.RuleBook.covering l.book) (g.B.RuleBook.idles_of l.book)) (state_at l.tour (g.B.RuleBook.is_state_at l.book)) (allows l.tour.params) (IsRootState l.roots) (l.step + 1) l.list.items
+invariant-loop-label g l = AreRankedReached (problem_of l.tour (g.B.RuleBook.machine l.book)) (state_at l.tour (g.B.RuleBook.machine l.book)) (allows l.tour.params) (IsRootState l.roots) (l.step + 1) l.list.items

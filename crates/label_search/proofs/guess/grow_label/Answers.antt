@@ -1,45 +1,21 @@
 use Rattle.std.proofs.Common.{◌≡◌, ◌+◌, length, sym, ◌∙◌, subst, arith}
 use Rattle.std.proofs.lemmas.Iterator.Adapters.{YieldsList-from_vec}
 use Rattle.std.proofs.lemmas.Iterator.Consumers.{YieldsList-turn}
-use Rattle.duty_core.specs.Params.{allows, BeginsUnit}
-use Rattle.rule_core.specs.Machine.{IsMachine}
+use Rattle.duty_core.specs.Params.{allows}
+use Rattle.rule_core.specs.Book.{IsBook}
 use Rattle.rule_core.specs.Reach.{IsOneOf}
-use Rattle.rule_core.specs.OneOf.{one_of_item}
-use Rattle.tour_model.specs.declared.tour.Tour.{Tour}
-use Rattle.tour_model.specs.Tour.{IsTour}
+use Rattle.rule_core.specs.Laws.OneOf.{one_of_item}
 use Rattle.tour_model.specs.Word.{word_length}
-use Rattle.cert_text.specs.Problem.{HasEta}
+use Rattle.cert_text.specs.Problem.{HasBound}
 use Rattle.cert_text.specs.Planning.{problem_of, state_at, minute_of}
 use Rattle.cert_text.specs.Cover.{IsLabelAt}
-use Rattle.cert_text.specs.ProblemLaws.{IsProblem}
-use Rattle.cert_text.specs.ProblemOf.{problem_laws}
+use Rattle.cert_text.specs.Laws.ProblemOf.{problem_laws}
 use Rattle.label_search.specs.Searching.{IsRootState}
 use Rattle.label_search.specs.Ways.{AreRankedReached}
 use Rattle.label_search.proofs.AnswerLaws.{root_state}
 use Rattle.label_search.proofs.GuessLaws.{grown_reached, ranked_push}
 use Rattle.label_search.proofs.guess.grow_label.Goals as goal
-use Rattle.label_search.proofs.guess.grow_label.Given.{Over}
 use Rattle.label_search.proofs.guess.grow_label.Goals.{In-Some}
-
--- the book's laws at the tour's start, as the lemmas take them
-laws : (g : Over) (book : g.row.B.Denot) (tour : Tour) → g.B.RuleBook.params_of book ≡ tour.params → IsTour tour →
-    IsProblem (problem_of tour (g.B.RuleBook.advances_of book) (g.B.RuleBook.covering book) (g.B.RuleBook.idles_of book)) (state_at tour (g.B.RuleBook.is_state_at book)) (allows tour.params)
-laws g book tour e t =
-    let first = tour.start in
-    problem_laws tour first (g.B.RuleBook.is_state_at book) (g.B.RuleBook.root_of book first) (g.B.RuleBook.nexts_of book) (g.B.RuleBook.advances_of book) (g.B.RuleBook.covering book) (g.B.RuleBook.idles_of book)
-    (subst (λ p. IsMachine p first (g.B.RuleBook.is_state_at book) (g.B.RuleBook.root_of book first) (g.B.RuleBook.nexts_of book) (g.B.RuleBook.advances_of book) (g.B.RuleBook.covering book) (g.B.RuleBook.idles_of book)) e
-    (record {
-      root_is = g.met.B.RuleBook.root_is_state book first (subst (λ p. BeginsUnit p first) (sym e) t.whole_start);
-      next_is = g.met.B.RuleBook.next_is_state book;
-      exact = g.met.B.RuleBook.exact book first;
-      advances_reach = g.met.B.RuleBook.advances_reach book;
-      advances_all = g.met.B.RuleBook.advances_all book;
-      itself = g.met.B.RuleBook.covers_itself book;
-      on = g.met.B.RuleBook.covers_on book;
-      simulates = g.met.B.RuleBook.simulation book;
-      tries_allowed = g.met.B.RuleBook.idles_allowed book;
-      tries_cover = g.met.B.RuleBook.idles_cover book;
-    })) t
 
 -- this iteration's successor is a label of the next step
 turn_of : (g : _) (c : In-Some g) → IsOneOf c.into_vec-grown-items.result.items c.in-Some.grown
@@ -49,7 +25,7 @@ turn_of g c =
     let t = YieldsList-turn (YieldsList-from_vec {s = c.into_iter-grown-iterator.result} xs i.0 (omega arith)) c.loop-grown.yielded c.loop-grown.grown-iterator c.loop-grown.yielded_by c.next.result c.next.new.self c.in-Some.grown c.in-Some.is c.next.ensures.steps in
     one_of_item xs (length c.loop-grown.yielded) c.in-Some.grown t.0 t.1
 
-label_of : (g : _) (c : In-Some g) → IsLabelAt (state_at c.args.tour.now (g.B.RuleBook.is_state_at c.args.book.now)) (word_length c.args.tour.now) (c.args.step + 1) c.in-Some.grown.label
+label_of : (g : _) (c : In-Some g) → IsLabelAt (state_at c.args.tour.now (g.B.RuleBook.machine c.args.book.now)) (word_length c.args.tour.now) (c.args.step + 1) c.in-Some.grown.label
 label_of g c = c.in_ok-successors.ensures.labels c.requires.label.at c.in-Some.grown (subst (λ ys. IsOneOf ys c.in-Some.grown) c.into_vec-grown-items.ensures (turn_of g c))
 
 pub successors-requires-clause-state : goal.successors-requires-clause-state
@@ -65,20 +41,22 @@ pub loop-grown-preserved-in_ok-push : goal.loop-grown-preserved-in_ok-push
 loop-grown-preserved-in_ok-push g c =
     let book = c.args.book.now in
     let tour = c.args.tour.now in
-    let problem = problem_of tour (g.B.RuleBook.advances_of book) (g.B.RuleBook.covering book) (g.B.RuleBook.idles_of book) in
-    let is_state = state_at tour (g.B.RuleBook.is_state_at book) in
+    let m = g.B.RuleBook.machine book in
+    let law = subst (λ params. IsBook params m) c.requires.params (g.met.B.RuleBook.laws book) in
+    let problem = problem_of tour m in
+    let is_state = state_at tour m in
     let starts = IsRootState c.args.roots.now in
     let some = (goal.at.loop-grown-preserved-in_ok-push g c).In-Some in
     let l = c.in-Some.grown.label in
     let step = c.args.step in
     let e : tour.start ≡ minute_of tour 0 = omega arith in
-    let states = root_state is_state c.args.roots.now 0 (λ r o. subst (g.B.RuleBook.is_state_at book r.state) e (c.requires.roots r o)) in
-    let eta : HasEta problem (step + 1) l = record { eta = c.in-Some-eta.eta; is = sym c.eta.ensures.value ∙ c.in-Some-eta.is } in
+    let states = root_state is_state c.args.roots.now 0 (λ r o. subst (m.is_state r.state) e (c.requires.roots r o)) in
+    let bound : HasBound problem (step + 1) l = record { bound = c.in-Some-eta.eta; is = sym c.eta.ensures.value ∙ c.in-Some-eta.is } in
     let o = subst (λ ys. IsOneOf ys c.in-Some.grown) (c.into_vec-grown-items.ensures ∙ c.in_ok-successors.ensures.exact) (turn_of g some) in
     record {
       can = tt;
       finite = tt;
       reached = subst (AreRankedReached problem is_state (allows tour.params) starts (step + 1)) (sym c.in_ok-push.ensures.items)
           (ranked_push problem is_state (allows tour.params) starts (step + 1) c.loop-grown.list.items _ c.loop-grown.invariant.reached
-          (grown_reached problem is_state (allows tour.params) starts (laws g book tour c.requires.params c.requires.tour) states step c.args.label.now c.in-Some.grown c.requires.label o eta (label_of g some)));
+          (grown_reached problem is_state (allows tour.params) starts (problem_laws tour m law c.requires.tour) states step c.args.label.now c.in-Some.grown c.requires.label o bound (label_of g some)));
     }

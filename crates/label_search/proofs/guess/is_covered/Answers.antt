@@ -1,4 +1,4 @@
-use Rattle.rule_core.specs.OneOf.{one_of_item}
+use Rattle.rule_core.specs.Laws.OneOf.{one_of_item}
 use Rattle.label_search.proofs.guess.is_covered.Goals as goal
 
 pub better-requires-clause-a : goal.better-requires-clause-a

@@ -3,7 +3,7 @@ use Rattle.std.proofs.lemmas.Iterator.Adapters.{YieldsList-from_vec}
 use Rattle.std.proofs.lemmas.Iterator.Consumers.{YieldsList-turn}
 use Rattle.duty_core.specs.Params.{allows}
 use Rattle.rule_core.specs.Reach.{IsOneOf}
-use Rattle.rule_core.specs.OneOf.{one_of_item}
+use Rattle.rule_core.specs.Laws.OneOf.{one_of_item}
 use Rattle.cert_text.specs.Planning.{problem_of, state_at}
 use Rattle.label_search.specs.Searching.{IsRootState}
 use Rattle.label_search.specs.Ways.{IsReached, AreReached}
@@ -12,7 +12,7 @@ use Rattle.label_search.proofs.Places.{one_of_permuted}
 use Rattle.label_search.proofs.guess.thinned.Goals as goal
 use Rattle.label_search.proofs.guess.thinned.Goals.{In-Some}
 
-reached_of : (g : _) (c : In-Some g) → IsReached (problem_of c.args.tour.now (g.B.RuleBook.advances_of c.args.book.now) (g.B.RuleBook.covering c.args.book.now) (g.B.RuleBook.idles_of c.args.book.now)) (state_at c.args.tour.now (g.B.RuleBook.is_state_at c.args.book.now))
+reached_of : (g : _) (c : In-Some g) → IsReached (problem_of c.args.tour.now (g.B.RuleBook.machine c.args.book.now)) (state_at c.args.tour.now (g.B.RuleBook.machine c.args.book.now))
     (allows c.args.tour.now.params) (IsRootState c.args.roots.now) c.args.step c.in-Some.ranked.label
 reached_of g c =
     let xs = c.sort_by_key.new.self.items in
@@ -30,8 +30,8 @@ pub loop-ranked-preserved-then-not-is_covered : goal.loop-ranked-preserved-then-
 loop-ranked-preserved-then-not-is_covered g c =
     let book = c.args.book.now in
     let tour = c.args.tour.now in
-    let problem = problem_of tour (g.B.RuleBook.advances_of book) (g.B.RuleBook.covering book) (g.B.RuleBook.idles_of book) in
-    let is_state = state_at tour (g.B.RuleBook.is_state_at book) in
+    let problem = problem_of tour (g.B.RuleBook.machine book) in
+    let is_state = state_at tour (g.B.RuleBook.machine book) in
     let starts = IsRootState c.args.roots.now in
     record {
       can = tt;

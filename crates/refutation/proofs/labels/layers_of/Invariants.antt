@@ -5,6 +5,6 @@ use Rattle.refutation.proofs.labels.layers_of.Given as goal
 
 abbrev pub invariant-loop-step : goal.invariant-loop-step
 invariant-loop-step g l = record {
-  written : AreLayersOf (g.B.RuleBook.state_of l.book) l.tour 0 l.list (label_layers (take l.step l.layers));
+  written : AreLayersOf (g.B.RuleBook.machine l.book).state_of l.tour 0 l.list (label_layers (take l.step l.layers));
   long : length l.list ≡ l.step;
 }

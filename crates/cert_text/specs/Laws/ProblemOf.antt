@@ -1,5 +1,5 @@
 -- The search problem of a tour and a book has the laws that a search asks for.
-use Rattle.std.proofs.Common.{◌≡◌, ℕ, ◌+◌, ◌*◌, ◌/◌, ◌<◌, ◌≤◌, Bool, true, false, zero, suc, List, [], ◌∷◌, ◌++◌, length, length-append, replicate, refl, sym, ◌∙◌, ap, subst, arith}
+use Rattle.std.proofs.Common.{◌≡◌, ℕ, ◌+◌, ◌*◌, ◌/◌, ◌<◌, ◌≤◌, true, false, zero, suc, List, [], ◌∷◌, ◌++◌, length, length-append, replicate, refl, sym, ◌∙◌, ap, subst, arith}
 use Rattle.std.specs.Prelude.{All, Contains}
 use Rattle.std.specs.Option.{option_to_list}
 use Rattle.std.proofs.lemmas.List.{length-replicate}
@@ -13,25 +13,26 @@ use Rattle.duty_core.specs.declared.params.Params.TheVariants.{UsProperty, Canad
 use Rattle.duty_core.specs.Activity.{idles}
 use Rattle.duty_core.specs.Params.{unit_minutes, allows}
 use Rattle.rule_core.specs.declared.nexts.Next.{Next}
-use Rattle.rule_core.specs.declared.nexts.Idles.{Idles}
 use Rattle.rule_core.specs.Reach.{idle_list, IsOneOf, Reaches, IsAnswered}
-use Rattle.rule_core.specs.ReachLaws.{reached_state}
-use Rattle.rule_core.specs.Machine.{IsMachine}
+use Rattle.rule_core.specs.Laws.ReachLaws.{reached_state}
+use Rattle.rule_core.specs.Machine.{Machine}
+use Rattle.rule_core.specs.Book.{IsBook}
 use Rattle.tour_model.specs.declared.tour.Tour.{Tour}
 use Rattle.tour_model.specs.declared.stop.Stop.{Stop}
 use Rattle.tour_model.specs.declared.piece.Piece.TheVariants as piece
 use Rattle.tour_model.specs.Tour.{grids_of, IsStop, IsTour}
 use Rattle.tour_model.specs.Word.{service_word, word_from, word_length}
 use Rattle.tour_model.specs.Way.{progresses}
-use Rattle.tour_model.specs.WayLaws.{may_before, may_idle_all}
-use Rattle.tour_model.specs.EtaLaws.{eta_full, eta_before}
-use Rattle.tour_model.specs.LengthLaws.{tour_grid_some}
+use Rattle.tour_model.specs.Laws.WayLaws.{may_before, may_idle_all}
+use Rattle.tour_model.specs.Eta.{eta_of}
+use Rattle.tour_model.specs.Laws.EtaLaws.{eta_full, eta_before}
+use Rattle.tour_model.specs.Laws.LengthLaws.{tour_grid_some}
 use Rattle.tour_model.specs.declared.limits.TheConstants.{MOST_DRIVE, MOST_SERVICE}
 use Rattle.tour_model.proofs.PieceLaws.{length-word}
 use Rattle.std.proofs.Math.Nat.{mul-le-mul_left}
 use Rattle.tour_model.specs.Schedule.{step_units}
 use Rattle.cert_text.specs.Planning.{minute_of, state_at, problem_of}
-use Rattle.cert_text.specs.ProblemLaws.{IsProblem}
+use Rattle.cert_text.specs.Laws.ProblemLaws.{IsProblem}
 
 -- each step of driving or service is an activity that a schedule may hold
 works_allowed : (params : Params) (x : Activity) → progresses x ≡ true → allows params x ≡ true
@@ -79,56 +80,52 @@ minute_more tour t k x =
     ∙ (ap (λ m. minute_of tour k + m) (step_minutes tour t) ∙ (let e : minute_of tour k + tour.grid ≡ minute_of tour (k + 1) = omega arith in e))
 
 -- A path from one state that ends in a state that covers t.
-pub record Follows {S : Type 0} (unit : ℕ) (nexts : S → ℕ → Activity → List (Next S)) (covers : S → S → ℕ → Bool) (a : S) (at : ℕ) (xs : List Activity) (t : S) : Type 0 where
+pub record Follows {S : Type 0} (unit : ℕ) (m : Machine S) (a : S) (at : ℕ) (xs : List Activity) (t : S) : Type 0 where
   pub marks : List Mark
   pub end : S
-  pub path : Reaches unit nexts a at xs marks end
-  pub over : covers end t (at + unit * length xs) ≡ true
+  pub path : Reaches unit m.nexts a at xs marks end
+  pub over : m.covers end t (at + unit * length xs) ≡ true
 
 -- a state that covers another goes along with it
-pub follows : {S : Type 0} (params : Params) (first : ℕ) (is_state : S → ℕ → Type 0) (root : S) (nexts : S → ℕ → Activity → List (Next S)) (advances : S → ℕ → Activity → ℕ → List (Next S)) (covers : S → S → ℕ → Bool) (tries : S → Idles) →
-    IsMachine params first is_state root nexts advances covers tries →
-    (xs : List Activity) (a b : S) (at : ℕ) (marks : List Mark) (t : S) → is_state a at → is_state b at → covers a b at ≡ true → All (λ x. allows params x ≡ true) xs →
-    Reaches (unit_minutes params) nexts b at xs marks t → Follows (unit_minutes params) nexts covers a at xs t
-follows params first is_state root nexts advances covers tries m [] a b at marks t i j c u r =
+pub follows : {S : Type 0} (params : Params) (m : Machine S) → IsBook params m →
+    (xs : List Activity) (a b : S) (at : ℕ) (marks : List Mark) (t : S) → m.is_state a at → m.is_state b at → m.covers a b at ≡ true → All (λ x. allows params x ≡ true) xs →
+    Reaches (unit_minutes params) m.nexts b at xs marks t → Follows (unit_minutes params) m a at xs t
+follows params m law [] a b at marks t i j c u r =
     let e : at ≡ at + unit_minutes params * 0 = omega arith in
-    record { marks = []; end = a; path = (refl, refl); over = subst (λ n. covers a t n ≡ true) e (subst (λ s. covers a s at ≡ true) r.0 c) }
-follows params first is_state root nexts advances covers tries m (x ∷ xs) a b at marks t i j c u r =
+    record { marks = []; end = a; path = (refl, refl); over = subst (λ n. m.covers a t n ≡ true) e (subst (λ s. m.covers a s at ≡ true) r.0 c) }
+follows params m law (x ∷ xs) a b at marks t i j c u r =
     let holds = λ (y : Activity). allows params y ≡ true in
     let unit = unit_minutes params in
-    let s = m.simulates a b at x r.0 i j c (All-head holds x xs u) r.1 in
-    let q = follows params first is_state root nexts advances covers tries m xs s.0.state r.0.state (at + unit) r.2 t (m.next_is a at x s.0 i s.1) (m.next_is b at x r.0 j r.1) s.2 (All-tail holds x xs u) r.4 in
+    let s = law.lasts.simulation a b at x r.0 i j c (All-head holds x xs u) r.1 in
+    let q = follows params m law xs s.0.state r.0.state (at + unit) r.2 t (law.lasts.next_is_state a at x s.0 i s.1) (law.lasts.next_is_state b at x r.0 j r.1) s.2 (All-tail holds x xs u) r.4 in
     let e : at + unit + unit * length xs ≡ at + unit * length (x ∷ xs) = omega arith in
-    record { marks = option_to_list s.0.mark ++ q.marks; end = q.end; path = (s.0, s.1, q.marks, refl, q.path); over = subst (λ n. covers q.end t n ≡ true) e q.over }
+    record { marks = option_to_list s.0.mark ++ q.marks; end = q.end; path = (s.0, s.1, q.marks, refl, q.path); over = subst (λ n. m.covers q.end t n ≡ true) e q.over }
 
 -- what a step reaches is a state
-pub step_state : {S : Type 0} (tour : Tour) (first : ℕ) (is_state : S → ℕ → Type 0) (root : S) (nexts : S → ℕ → Activity → List (Next S)) (advances : S → ℕ → Activity → ℕ → List (Next S)) (covers : S → S → ℕ → Bool) (tries : S → Idles) →
-    IsMachine tour.params first is_state root nexts advances covers tries → IsTour tour →
-    (s : S) (k : ℕ) (x : Activity) (n : Next S) → is_state s (minute_of tour k) → IsOneOf (advances s (minute_of tour k) x (step_units tour)) n → is_state n.state (minute_of tour (k + 1))
-step_state tour first is_state root nexts advances covers tries m t s k x n i h =
-    subst (is_state n.state) (minute_more tour t k x)
-    (reached_state (unit_minutes tour.params) is_state nexts m.next_is (replicate (step_units tour) x) s (minute_of tour k) (option_to_list n.mark) n.state i (m.advances_reach s (minute_of tour k) x (step_units tour) n i h))
+pub step_state : {S : Type 0} (tour : Tour) (m : Machine S) → IsBook tour.params m → IsTour tour →
+    (s : S) (k : ℕ) (x : Activity) (n : Next S) → m.is_state s (minute_of tour k) → IsOneOf (m.advances s (minute_of tour k) x (step_units tour)) n → m.is_state n.state (minute_of tour (k + 1))
+step_state tour m law t s k x n i h =
+    subst (m.is_state n.state) (minute_more tour t k x)
+    (reached_state (unit_minutes tour.params) m.is_state m.nexts law.lasts.next_is_state (replicate (step_units tour) x) s (minute_of tour k) (option_to_list n.mark) n.state i (law.advances_reach s (minute_of tour k) x (step_units tour) n i h))
 
-step_simulates : {S : Type 0} (tour : Tour) (first : ℕ) (is_state : S → ℕ → Type 0) (root : S) (nexts : S → ℕ → Activity → List (Next S)) (advances : S → ℕ → Activity → ℕ → List (Next S)) (covers : S → S → ℕ → Bool) (tries : S → Idles) →
-    IsMachine tour.params first is_state root nexts advances covers tries → IsTour tour →
-    (a b : S) (k : ℕ) (x : Activity) (n : Next S) → is_state a (minute_of tour k) → is_state b (minute_of tour k) → covers a b (minute_of tour k) ≡ true → allows tour.params x ≡ true →
-    IsOneOf (advances b (minute_of tour k) x (step_units tour)) n → IsAnswered (advances a (minute_of tour k) x (step_units tour)) (λ t. covers t n.state (minute_of tour (k + 1)))
-step_simulates tour first is_state root nexts advances covers tries m t a b k x n i j c u h =
+step_simulates : {S : Type 0} (tour : Tour) (m : Machine S) → IsBook tour.params m → IsTour tour →
+    (a b : S) (k : ℕ) (x : Activity) (n : Next S) → m.is_state a (minute_of tour k) → m.is_state b (minute_of tour k) → m.covers a b (minute_of tour k) ≡ true → allows tour.params x ≡ true →
+    IsOneOf (m.advances b (minute_of tour k) x (step_units tour)) n → IsAnswered (m.advances a (minute_of tour k) x (step_units tour)) (λ t. m.covers t n.state (minute_of tour (k + 1)))
+step_simulates tour m law t a b k x n i j c u h =
     let each = step_units tour in
-    let q = follows tour.params first is_state root nexts advances covers tries m (replicate each x) a b (minute_of tour k) (option_to_list n.mark) n.state i j c
-    (All-replicate (λ y. allows tour.params y ≡ true) each x u) (m.advances_reach b (minute_of tour k) x each n j h) in
-    let s = m.advances_all a (minute_of tour k) x each q.marks q.end i q.path in
-    (s.0, s.1, subst (λ u. covers u n.state (minute_of tour (k + 1)) ≡ true) (sym s.2) (subst (λ at. covers q.end n.state at ≡ true) (minute_more tour t k x) q.over))
+    let q = follows tour.params m law (replicate each x) a b (minute_of tour k) (option_to_list n.mark) n.state i j c
+    (All-replicate (λ y. allows tour.params y ≡ true) each x u) (law.advances_reach b (minute_of tour k) x each n j h) in
+    let s = law.advances_all a (minute_of tour k) x each q.marks q.end i q.path in
+    (s.0, s.1, subst (λ u. m.covers u n.state (minute_of tour (k + 1)) ≡ true) (sym s.2) (subst (λ at. m.covers q.end n.state at ≡ true) (minute_more tour t k x) q.over))
 
-step_tries : {S : Type 0} (tour : Tour) (first : ℕ) (is_state : S → ℕ → Type 0) (root : S) (nexts : S → ℕ → Activity → List (Next S)) (advances : S → ℕ → Activity → ℕ → List (Next S)) (covers : S → S → ℕ → Bool) (tries : S → Idles) →
-    IsMachine tour.params first is_state root nexts advances covers tries → IsTour tour →
-    (s : S) (k : ℕ) (x : Activity) (t : Next S) → is_state s (minute_of tour k) → idles x ≡ true → allows tour.params x ≡ true → IsOneOf (advances s (minute_of tour k) x (step_units tour)) t →
-    (y : Activity) × IsOneOf (idle_list (tries s)) y × IsAnswered (advances s (minute_of tour k) y (step_units tour)) (λ u. covers u t.state (minute_of tour (k + 1)))
-step_tries tour first is_state root nexts advances covers tries m i s k x t there d u h =
+step_tries : {S : Type 0} (tour : Tour) (m : Machine S) → IsBook tour.params m → IsTour tour →
+    (s : S) (k : ℕ) (x : Activity) (t : Next S) → m.is_state s (minute_of tour k) → idles x ≡ true → allows tour.params x ≡ true → IsOneOf (m.advances s (minute_of tour k) x (step_units tour)) t →
+    (y : Activity) × IsOneOf (idle_list (m.idles s)) y × IsAnswered (m.advances s (minute_of tour k) y (step_units tour)) (λ u. m.covers u t.state (minute_of tour (k + 1)))
+step_tries tour m law i s k x t there d u h =
     let few : step_units tour ≤ LONGEST_HISTORY = (let l = step_few tour i in omega arith) in
-    let q = m.tries_cover s (minute_of tour k) x (step_units tour) t there (step_some tour i) few d u h in
+    let q = law.idles_cover s (minute_of tour k) x (step_units tour) t there (step_some tour i) few d u h in
     let e : minute_of tour k + unit_minutes tour.params * step_units tour ≡ minute_of tour (k + 1) = ap (λ n. minute_of tour k + n) (step_minutes tour i) ∙ (let f : minute_of tour k + tour.grid ≡ minute_of tour (k + 1) = omega arith in f) in
-    (q.0, q.1, (q.2.0, q.2.1, subst (λ at. covers q.2.0.state t.state at ≡ true) e q.2.2))
+    (q.0, q.1, (q.2.0, q.2.1, subst (λ at. m.covers q.2.0.state t.state at ≡ true) e q.2.2))
 
 -- a tour has something to do
 service_some : (number n : ℕ) → 1 ≤ n → 0 < length (service_word number n)
@@ -169,20 +166,21 @@ word_few tour t =
     omega arith
 
 -- the laws of the problem
-pub problem_laws : {S : Type 0} (tour : Tour) (first : ℕ) (is_state : S → ℕ → Type 0) (root : S) (nexts : S → ℕ → Activity → List (Next S)) (advances : S → ℕ → Activity → ℕ → List (Next S)) (covers : S → S → ℕ → Bool) (tries : S → Idles) →
-    IsMachine tour.params first is_state root nexts advances covers tries → IsTour tour →
-    IsProblem (problem_of tour advances covers tries) (state_at tour is_state) (allows tour.params)
-problem_laws tour first is_state root nexts advances covers tries m t = record {
+pub problem_laws : {S : Type 0} (tour : Tour) (m : Machine S) → IsBook tour.params m → IsTour tour →
+    IsProblem (problem_of tour m) (state_at tour m) (allows tour.params)
+problem_laws tour m law t = record {
   goal_some = word_some tour t;
-  next_is = step_state tour first is_state root nexts advances covers tries m t;
-  itself = λ s k i. m.itself s (minute_of tour k) i;
-  on = λ a b c k. m.on a b c (minute_of tour k);
-  simulates = step_simulates tour first is_state root nexts advances covers tries m t;
-  tries_idle = λ s k y i h. m.tries_allowed s (minute_of tour k) y i h;
-  tries_cover = step_tries tour first is_state root nexts advances covers tries m t;
+  next_is = step_state tour m law t;
+  itself = λ s k i. law.covers_itself s (minute_of tour k) i;
+  on = λ a b c k. law.lasts.covers_on a b c (minute_of tour k);
+  simulates = step_simulates tour m law t;
+  tries_idle = λ s k y i h. law.idles_allowed s (minute_of tour k) y i h;
+  tries_cover = step_tries tour m law t;
   works_allowed = works_allowed tour.params;
   may_before = may_before tour;
   may_idle = may_idle_all tour;
-  eta_goal = eta_full tour;
-  eta_before = eta_before tour;
+  bounded = record {
+    full = λ k l ends. ap (eta_of tour k) ends ∙ eta_full tour k;
+    before = λ k l x n e here may ok o by. (let q = eta_before tour k l.progress x e may by in record { at = q.0; is = q.1; by = q.2 });
+  };
 }

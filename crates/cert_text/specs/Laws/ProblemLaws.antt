@@ -1,12 +1,23 @@
 -- What lemmas ask of a search problem.
-use Rattle.std.proofs.Common.{◌≡◌, ℕ, ◌+◌, ◌<◌, ◌≤◌, Bool, true}
-use Rattle.std.specs.Prelude.{Some}
+use Rattle.std.proofs.Common.{◌≡◌, ℕ, ◌+◌, ◌<◌, Bool, true}
+use Rattle.std.specs.Prelude.{Option, Some}
 use Rattle.duty_core.specs.declared.activity.Activity.{Activity}
 use Rattle.duty_core.specs.Activity.{idles}
 use Rattle.rule_core.specs.declared.nexts.Next.{Next}
 use Rattle.rule_core.specs.Reach.{IsOneOf, IsAnswered}
-use Rattle.tour_model.specs.Way.{progresses, done}
-use Rattle.cert_text.specs.Problem.{Problem}
+use Rattle.tour_model.specs.declared.label.Label.{Label}
+use Rattle.tour_model.specs.Way.{progresses}
+use Rattle.tour_model.specs.Laws.WindowLaws.{IsBy}
+use Rattle.cert_text.specs.Problem.{Problem, grow}
+use Rattle.cert_text.specs.Cover.{IsLabelAt}
+
+-- The laws of a bound. From them it follows that no continuation of a label ends before its bound, and that a label with none has no continuation.
+pub record IsBound {S : Type 0} (problem : Problem S) (is_state : S → ℕ → Type 0) (allowed : Activity → Bool) (bound : ℕ → Label S → Option ℕ) : Type 0 where
+  -- a finished label ends at its step
+  pub full : (k : ℕ) (l : Label S) → l.progress ≡ problem.goal → bound k l ≡ Some k
+  -- where what an allowed activity makes of a label has a bound, the label has one, which is no later
+  pub before : (k : ℕ) (l : Label S) (x : Activity) (n : Next S) (e : ℕ) → IsLabelAt is_state problem.goal k l → problem.may k l.progress x ≡ true → allowed x ≡ true →
+      IsOneOf (problem.nexts l.state k x) n → bound (k + 1) (grow l k x n).label ≡ Some e → IsBy (bound k l) e
 
 -- The laws of a problem, by step: those of its book, over whole steps, and those of its tour.
 -- `is_state` tells which states there are at a step, and `allowed` which activities a schedule may hold.
@@ -25,6 +36,4 @@ pub record IsProblem {S : Type 0} (problem : Problem S) (is_state : S → ℕ �
   pub may_before : (k p : ℕ) (x : Activity) → problem.may k p x ≡ true → p < problem.goal
   -- where one idle activity is allowed, each is
   pub may_idle : (k p : ℕ) (x y : Activity) → idles x ≡ true → idles y ≡ true → problem.may k p x ≡ true → problem.may k p y ≡ true
-  pub eta_goal : (k : ℕ) → problem.eta k problem.goal ≡ Some k
-  -- what can be finished after a step could be finished before it, and no later
-  pub eta_before : (k p : ℕ) (x : Activity) (e : ℕ) → problem.may k p x ≡ true → problem.eta (k + 1) (done p x) ≡ Some e → (d : ℕ) × (problem.eta k p ≡ Some d) × (d ≤ e)
+  pub bounded : IsBound problem is_state allowed problem.bound

@@ -8,7 +8,7 @@ use Rattle.civil_minutes.specs.declared.century.TheConstants.{MINUTES_OF_CENTURY
 use Rattle.civil_minutes.specs.Day.{day_of_minute, minute_in_day}
 use Rattle.civil_minutes.specs.Time.{IsTimeText}
 use Rattle.civil_minutes.specs.TimeOf.{time_of}
-use Rattle.civil_minutes.specs.TimeOfLaws.{time_of_text, text_of_time}
+use Rattle.civil_minutes.specs.Laws.TimeOfLaws.{time_of_text, text_of_time}
 use Rattle.duty_core.specs.declared.mark.Mark.{Mark}
 use Rattle.duty_core.specs.declared.mark.Mark.TheVariants.{SplitRest, DeferDay}
 use Rattle.duty_core.specs.declared.params.Params.{Params}
@@ -18,9 +18,9 @@ use Rattle.cert_text.specs.declared.marks.Marked.{Marked}
 use Rattle.cert_text.specs.declared.marks.MarkPlace.{MarkPlace}
 use Rattle.cert_text.specs.Form.{IsMarkForm, AreMarkForms}
 use Rattle.cert_text.specs.Spelling.{mark_word, AreMarkLines}
-use Rattle.cert_text.specs.Reading.{◌>>=◌, strip_at, word_at, time_is, time_at, or_defer, mark_word_at, mark_of, marked_is, has_room, mark_at, behind_mark, marks_at}
-use Rattle.cert_text.specs.WordLaws.{bind_ok, ok_is, guard_ok, both_true, and_true, strip_takes, strip_again, word_takes, then_takes}
-use Rattle.cert_text.specs.ItemLaws.{AreGood, Takes, IsReadAgain, repeat_takes, repeat_again}
+use Rattle.cert_text.specs.Reading.{◌>>=◌, strip_at, word_at, time_is, time_at, or_defer, mark_word_at, mark_of, marked_is, has_room, mark_at, after_mark, marks_at}
+use Rattle.cert_text.specs.Laws.WordLaws.{bind_ok, ok_is, guard_ok, both_true, and_true, strip_takes, strip_again, word_takes, then_takes}
+use Rattle.cert_text.specs.Laws.ItemLaws.{AreGood, Takes, IsReadAgain, repeat_takes, repeat_again}
 
 -- ---- times
 
@@ -183,17 +183,17 @@ pub one_minute : (params : Params) (mark : Mark) (a b : ℕ) → pos a ≡ mark_
 one_minute params mark a b h k = let same : pos a ≡ pos b = h ∙ sym k in cc
 
 marks_good : (params : Params) (place : MarkPlace) (marks : List Mark) (text : List ℕ) → place.left ≡ length marks
-    → AreGood (λ (m : Marked). m.mark) behind_mark (GoodMark params) place marks text → AreMarkForms params place.least marks × AreMarkLines params marks text
+    → AreGood (λ (m : Marked). m.mark) after_mark (GoodMark params) place marks text → AreMarkForms params place.least marks × AreMarkLines params marks text
 marks_good params place [] text few are = (tt, are)
 marks_good params place (mark ∷ marks) text few are =
     let good = are.5 in
     let minute : pos are.0.at ≡ mark_minute params mark = good.minute ∙ ap (λ m. mark_minute params m) (sym are.3) in
-    let later = marks_good params (behind_mark place are.0) marks are.2 (omega (arith, few)) are.6 in (
+    let later = marks_good params (after_mark place are.0) marks are.2 (omega (arith, few)) are.6 in (
       (record { at = are.0.at; minute = minute; late = good.late; century = omega (arith, good.room, few) }, later.0),
       (are.1, are.2, are.4, record { at = are.0.at; minute = minute; time = good.time; time_is = good.time_text; spelled = good.spelled ∙ ap (λ m. codes "m " ++ (mark_word m ++ (good.time ++ codes "\n"))) (sym are.3) }, later.1),
     )
 
--- marks of the century leave room for those behind them
+-- marks of the century leave room for those after them
 room_of : (params : Params) (least : ℕ) (mark : Mark) (marks : List Mark) (form : IsMarkForm params least mark) → AreMarkForms params (form.at + 1) marks → form.at + length (mark ∷ marks) ≤ MINUTES_OF_CENTURY
 room_of params least mark [] form later = omega (arith, form.century)
 room_of params least mark (next ∷ marks) form later =
@@ -201,7 +201,7 @@ room_of params least mark (next ∷ marks) form later =
     omega (arith, more, later.0.late)
 
 good_marks : (params : Params) (place : MarkPlace) (marks : List Mark) (text : List ℕ) → place.left ≡ length marks
-    → AreMarkForms params place.least marks → AreMarkLines params marks text → AreGood (λ (m : Marked). m.mark) behind_mark (GoodMark params) place marks text
+    → AreMarkForms params place.least marks → AreMarkLines params marks text → AreGood (λ (m : Marked). m.mark) after_mark (GoodMark params) place marks text
 good_marks params place [] text few forms lines = lines
 good_marks params place (mark ∷ marks) text few forms lines =
     let form = forms.0 in
@@ -215,7 +215,7 @@ good_marks params place (mark ∷ marks) text few forms lines =
       refl,
       lines.2,
       record { minute = form.minute; late = form.late; room = rw few room; time = line.time; time_text = subst (λ k. IsTimeText line.time k) same line.time_is; spelled = line.spelled },
-      good_marks params (behind_mark place marked) marks lines.1 (omega (arith, few)) forms.1 lines.4,
+      good_marks params (after_mark place marked) marks lines.1 (omega (arith, few)) forms.1 lines.4,
     )
 
 -- what so many marks take of the bytes
@@ -230,7 +230,7 @@ pub marks_take : (params : Params) (n : ℕ) (bytes : List ℕ) (x : List Mark �
 unfolding marks_at
 marks_take params n bytes x low e =
     let place : MarkPlace = record { least = 0; left = n } in
-    let t = repeat_takes (λ (m : Marked). m.mark) (mark_at params) behind_mark (GoodMark params) (mark_takes params low) n place bytes x e in
+    let t = repeat_takes (λ (m : Marked). m.mark) (mark_at params) after_mark (GoodMark params) (mark_takes params low) n place bytes x e in
     let g = marks_good params place x.0 t.text (sym t.count) t.are_good in
     record { text = t.text; parts = t.parts; forms = g.0; lines = g.1; count = t.count }
 
@@ -238,4 +238,4 @@ pub marks_again : (params : Params) (marks : List Mark) (text rest : List ℕ) �
 unfolding marks_at
 marks_again params marks text rest low forms lines =
     let place : MarkPlace = record { least = 0; left = length marks } in
-    repeat_again (λ (m : Marked). m.mark) (mark_at params) behind_mark (GoodMark params) (mark_again params low) marks place text rest (good_marks params place marks text refl forms lines)
+    repeat_again (λ (m : Marked). m.mark) (mark_at params) after_mark (GoodMark params) (mark_again params low) marks place text rest (good_marks params place marks text refl forms lines)

@@ -171,6 +171,6 @@ number_takes (b ∷ bytes) n rest e = zero_or (eqb b 48) refl e
         (rw (← p.0, ← p.1, one, same) refl, rw (← p.0) (omega arith))
     zero_or false is e = digit_or (is_ascii_digit b) refl is e
 
--- a piece and what stands behind it
+-- a piece and what stands after it
 pub then_takes : (bytes a r t rest : List ℕ) → bytes ≡ a ++ r → r ≡ t ++ rest → bytes ≡ (a ++ t) ++ rest
 then_takes bytes a r t rest p q = p ∙ ap (λ (x : List ℕ). a ++ x) q ∙ sym (append_assoc a t rest)

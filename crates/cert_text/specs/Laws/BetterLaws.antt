@@ -8,12 +8,12 @@ use Rattle.duty_core.specs.declared.activity.Activity.TheVariants.{Drive, Serve,
 use Rattle.duty_core.specs.Activity.{idles}
 use Rattle.rule_core.specs.declared.nexts.Next.{Next}
 use Rattle.rule_core.specs.Reach.{IsOneOf}
-use Rattle.rule_core.specs.OneOf.{one_of_map, one_of_flat_map, one_of-map, one_of-flat_map}
+use Rattle.rule_core.specs.Laws.OneOf.{one_of_map, one_of_flat_map, one_of-map, one_of-flat_map}
 use Rattle.tour_model.specs.declared.label.Label.{Label}
 use Rattle.cert_text.specs.declared.grown.Grown.{Grown}
 use Rattle.tour_model.specs.Way.{done}
 use Rattle.cert_text.specs.Problem.{Problem, departed, grow, grown_by, successors_of, later, is_better}
-use Rattle.cert_text.specs.ProblemLaws.{IsProblem}
+use Rattle.cert_text.specs.Laws.ProblemLaws.{IsProblem}
 
 -- the parts of better
 pub record AreBetter {S : Type 0} (problem : Problem S) (step : ℕ) (a b : Label S) : Type 0 where
@@ -37,6 +37,11 @@ later_on None b c h i = refl
 later_on (Some x) None c h i = absurd (let e : false ≡ true = h in cc)
 later_on (Some x) (Some y) None h i = absurd (let e : false ≡ true = i in cc)
 later_on (Some x) (Some y) (Some z) h i = grind (arith, nat_tests)
+
+-- a departure that is not earlier than one that is there
+pub later_some : (x : ℕ) (d : Option ℕ) → later (Some x) d ≡ true → (c : ℕ) × (d ≡ Some c) × (c ≤ x)
+later_some x None h = absurd (let e : false ≡ true = h in cc)
+later_some x (Some c) h = (c, refl, grind (arith, nat_tests))
 
 -- a departure that is not after this step
 abbrev pub IsPast : Option ℕ → ℕ → Type 0
@@ -128,7 +133,7 @@ better_on problem is_state allowed laws step a b c i j l h g =
       state = laws.on a.state b.state c.state step i j l x.state y.state;
     })
 
-later_itself : (d : Option ℕ) → later d d ≡ true
+pub later_itself : (d : Option ℕ) → later d d ≡ true
 later_itself None = refl
 later_itself (Some x) = le_test x x (omega arith)
 

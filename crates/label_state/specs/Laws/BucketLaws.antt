@@ -1,12 +1,13 @@
 -- The places of the labels of one progress: of a layer that grows, and what they tell of a layer.
-use Rattle.std.proofs.Common.{◌≡◌, ℕ, ◌+◌, ◌<◌, ◌≤◌, Bool, true, false, List, [], ◌∷◌, ◌++◌, length, get_or, refl, sym, ◌∙◌, ap, subst, arith, inl, inr, zero, suc}
-use Rattle.std.specs.Prelude.{Option, None, Some, slice_get, nat_eq, if◌then◌else◌}
+use Rattle.std.proofs.Common.{◌≡◌, ℕ, ◌+◌, ◌<◌, true, false, List, [], ◌∷◌, ◌++◌, length, get_or, sym, ◌∙◌, ap, subst, arith, inl, inr, zero, suc}
+use Rattle.std.specs.Prelude.{None, Some, slice_get, nat_eq, if◌then◌else◌}
 use Rattle.std.proofs.lemmas.Bool.{cases_Bool}
 use Rattle.std.proofs.lemmas.Bool.Decides.{nat_tests}
 use Rattle.label_state.specs.declared.kept.Kept.{Kept}
-use Rattle.label_state.specs.Buckets.{places_from, place_if, ArePlaces}
+use Rattle.label_state.specs.Buckets.{places_from, place_if}
+use Rattle.label_state.specs.Laws.Buckets.{ArePlaces}
 
--- the places where a label is added behind others
+-- the places where a label is added after others
 pub places_push : {S : Type 0} (p i : ℕ) (layer : List (Kept S)) (k : Kept S) → places_from p i (layer ++ k ∷ []) ≡ places_from p i layer ++ place_if p (i + length layer) k.label.progress
 unfolding places_from
 places_push p i [] k = ap (λ n. if nat_eq k.label.progress p then n ∷ [] else []) (let e : i ≡ i + 0 = omega arith in e)

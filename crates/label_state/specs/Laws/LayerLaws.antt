@@ -5,7 +5,7 @@ use Rattle.std.proofs.lemmas.Bool.{cases_lt}
 use Rattle.std.proofs.lemmas.List.{length-map, set_split, length-set, get_or-map, drop_all, get_or_past, get_or_push, get_or_append_left, get_or-set_same, get_or-set_other}
 use Rattle.std.proofs.lemmas.List.Sums.{sum_by-set, sum_by-append, sum_by-cons}
 use Rattle.rule_core.specs.Reach.{IsOneOf}
-use Rattle.rule_core.specs.OneOf.{one_of-map, one_of_map}
+use Rattle.rule_core.specs.Laws.OneOf.{one_of-map, one_of_map}
 use Rattle.tour_model.specs.declared.label.Label.{Label}
 use Rattle.tour_model.specs.Layer.{layer_at}
 use Rattle.label_state.specs.declared.kept.Kept.{Kept}
@@ -43,7 +43,7 @@ layer_kept layers k step lt =
     let i = last_step layers in
     ap (λ ls. layer_at ls step) (sym (with_kept_is layers k (omega arith))) ∙ get_or-set_other layers i step (last_layer layers ++ k ∷ []) [] (λ e. (let f : step ≡ i = e in let g : step < step = subst (λ n. step < n) (sym f) lt in absurd (omega arith)))
 
--- ---- one more layer behind the others
+-- ---- one more layer after the others
 
 pub layer_old : {X : Type 0} (layers : List (List X)) (next : List X) (step : ℕ) → step < length layers → layer_at (layers ++ next ∷ []) step ≡ layer_at layers step
 layer_old layers next step lt = get_or_append_left layers (next ∷ []) [] step lt

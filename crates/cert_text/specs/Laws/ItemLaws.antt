@@ -1,10 +1,10 @@
--- Items one behind the other: what is read is spelled so, and what is spelled so is read.
+-- Items one after the other: what is read is spelled so, and what is spelled so is read.
 use Rattle.std.proofs.Common.{◌≡◌, ℕ, zero, suc, ◌<◌, List, [], ◌∷◌, ◌++◌, length, codes, Result, Ok, refl, sym, ap, subst, ◌∙◌, append_assoc}
 use Rattle.std.specs.Fmt.{decimal}
 use Rattle.rule_core.specs.declared.numbers.TheConstants.{NUMBER_LIMIT}
 use Rattle.cert_text.specs.Spelling.{number_line}
 use Rattle.cert_text.specs.Reading.{◌>>=◌, word_at, number_at, number_line_at, repeat_at}
-use Rattle.cert_text.specs.WordLaws.{bind_ok, bind_is, ok_is, word_takes, word_again, number_again, number_takes}
+use Rattle.cert_text.specs.Laws.WordLaws.{bind_ok, bind_is, ok_is, word_takes, word_again, number_again, number_takes}
 
 -- ---- a number to the end of its line
 
@@ -33,7 +33,7 @@ number_line_again word n rest lt =
 
 -- ---- so many items
 
--- The text is that of these items, as `view` sees them, one behind the other: each is good at its place.
+-- The text is that of these items, as `view` sees them, one after the other: each is good at its place.
 abbrev pub AreGood : {S A B : Type 0} → (A → B) → (S → A → S) → (S → A → List ℕ → Type 0) → S → List B → List ℕ → Type 0
 AreGood view next good s [] text = text ≡ []
 AreGood {S} {A} view next good s (b ∷ bs) text =

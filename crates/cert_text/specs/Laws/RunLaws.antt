@@ -10,9 +10,9 @@ use Rattle.duty_core.specs.declared.activity.Activity.TheVariants.{Drive, Serve,
 use Rattle.cert_text.specs.declared.cert.StepRun.{StepRun}
 use Rattle.cert_text.specs.Form.{IsRunForm, AreRunForms}
 use Rattle.cert_text.specs.Spelling.{letter, run_line}
-use Rattle.cert_text.specs.Reading.{◌>>=◌, word_at, number_at, act_of, letter_is, letter_at, same_act, may_follow, run_at, behind_run, runs_at}
-use Rattle.cert_text.specs.WordLaws.{bind_ok, ok_is, guard_ok, both_true, and_true, word_takes, strip_again, number_again, number_takes, then_takes}
-use Rattle.cert_text.specs.ItemLaws.{AreGood, Takes, IsReadAgain, repeat_takes, repeat_again}
+use Rattle.cert_text.specs.Reading.{◌>>=◌, word_at, number_at, act_of, letter_is, letter_at, same_act, may_follow, run_at, after_run, runs_at}
+use Rattle.cert_text.specs.Laws.WordLaws.{bind_ok, ok_is, guard_ok, both_true, and_true, word_takes, strip_again, number_again, number_takes, then_takes}
+use Rattle.cert_text.specs.Laws.ItemLaws.{AreGood, Takes, IsReadAgain, repeat_takes, repeat_again}
 
 -- the letter of the activity that a letter stands for
 act_letter : (b : ℕ) (act : Activity) → act_of b ≡ Some act → b ∷ [] ≡ letter act
@@ -153,7 +153,7 @@ run_again before run front rest good =
     ) refl
 
 -- good runs are runs that have a text, and back
-runs_good : (before : Option Activity) (runs : List StepRun) (text : List ℕ) → AreGood (λ (r : StepRun). r) behind_run GoodRun before runs text → AreRunForms before runs × (text ≡ flat_map run_line runs)
+runs_good : (before : Option Activity) (runs : List StepRun) (text : List ℕ) → AreGood (λ (r : StepRun). r) after_run GoodRun before runs text → AreRunForms before runs × (text ≡ flat_map run_line runs)
 runs_good before [] text are = (tt, are)
 runs_good before (run ∷ runs) text are =
     let first = subst (λ r. GoodRun before r are.1) (sym are.3) are.5 in
@@ -161,17 +161,17 @@ runs_good before (run ∷ runs) text are =
     let same : Some are.0.act ≡ Some run.act = ap (λ (r : StepRun). Some r.act) (sym are.3) in
     ((first.0, subst (λ b. AreRunForms b runs) same later.0), are.4 ∙ rw (first.1, later.1) (sym (flat_map-cons run_line run runs)))
 
-good_runs : (before : Option Activity) (runs : List StepRun) → AreRunForms before runs → AreGood (λ (r : StepRun). r) behind_run GoodRun before runs (flat_map run_line runs)
+good_runs : (before : Option Activity) (runs : List StepRun) → AreRunForms before runs → AreGood (λ (r : StepRun). r) after_run GoodRun before runs (flat_map run_line runs)
 good_runs before [] forms = refl
 good_runs before (run ∷ runs) forms = (run, run_line run, flat_map run_line runs, refl, flat_map-cons run_line run runs, (forms.0, refl), good_runs (Some run.act) runs forms.1)
 
 pub runs_take : (n : ℕ) (bytes : List ℕ) (x : List StepRun × List ℕ) → runs_at n bytes ≡ Ok x → (bytes ≡ flat_map run_line x.0 ++ x.1) × AreRunForms None x.0 × (length x.0 ≡ n)
 unfolding runs_at
 runs_take n bytes x e =
-    let t = repeat_takes (λ (r : StepRun). r) run_at behind_run GoodRun run_takes n None bytes x e in
+    let t = repeat_takes (λ (r : StepRun). r) run_at after_run GoodRun run_takes n None bytes x e in
     let g = runs_good None x.0 t.text t.are_good in
     (t.parts ∙ ap (λ (y : List ℕ). y ++ x.1) g.1, g.0, t.count)
 
 pub runs_again : (runs : List StepRun) (rest : List ℕ) → AreRunForms None runs → runs_at (length runs) (flat_map run_line runs ++ rest) ≡ Ok (runs, rest)
 unfolding runs_at
-runs_again runs rest forms = repeat_again (λ (r : StepRun). r) run_at behind_run GoodRun run_again runs None (flat_map run_line runs) rest (good_runs None runs forms)
+runs_again runs rest forms = repeat_again (λ (r : StepRun). r) run_at after_run GoodRun run_again runs None (flat_map run_line runs) rest (good_runs None runs forms)

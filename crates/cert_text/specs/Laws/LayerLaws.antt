@@ -10,9 +10,9 @@ use Rattle.cert_text.specs.declared.cert.CertLabel.{CertLabel}
 use Rattle.rule_core.specs.declared.numbers.TheConstants.{NUMBER_LIMIT, MOST_NUMBERS}
 use Rattle.cert_text.specs.Form.{IsLabelForm, IsLayerForm}
 use Rattle.cert_text.specs.Spelling.{number_or_dash, state_number, label_line, layer_head, layer_lines, layers_lines}
-use Rattle.cert_text.specs.Reading.{◌>>=◌, word_at, strip_at, number_at, dash_or_number_at, behind_space, numbers_at, label_at, labels_at, layer_head_at, layer_at, layers_at}
-use Rattle.cert_text.specs.WordLaws.{bind_ok, bind_is, ok_is, guard_ok, strip_takes, strip_again, word_takes, IsBehindNumber, number_again, number_takes, then_takes}
-use Rattle.cert_text.specs.ItemLaws.{AreGood, Takes, IsReadAgain, repeat_takes, repeat_again}
+use Rattle.cert_text.specs.Reading.{◌>>=◌, word_at, strip_at, number_at, dash_or_number_at, after_space, numbers_at, label_at, labels_at, layer_head_at, layer_at, layers_at}
+use Rattle.cert_text.specs.Laws.WordLaws.{bind_ok, bind_is, ok_is, guard_ok, strip_takes, strip_again, word_takes, IsBehindNumber, number_again, number_takes, then_takes}
+use Rattle.cert_text.specs.Laws.ItemLaws.{AreGood, Takes, IsReadAgain, repeat_takes, repeat_again}
 
 -- ---- a dash or a number
 
@@ -49,8 +49,8 @@ a_number (b ∷ bytes) n rest e = go (eqb b 45) refl
 
 dash_again : (o : Option ℕ) (rest : List ℕ) → IfSome o (λ d. d < NUMBER_LIMIT) → IsBehindNumber rest → dash_or_number_at (number_or_dash o ++ rest) ≡ Ok (o, rest)
 unfolding dash_or_number_at
-dash_again None rest few behind = refl
-dash_again (Some n) rest few behind = a_number (decimal n ++ rest) n rest (number_again n rest few behind)
+dash_again None rest few thereafter = refl
+dash_again (Some n) rest few thereafter = a_number (decimal n ++ rest) n rest (number_again n rest few thereafter)
 
 -- ---- the numbers of a state
 
@@ -66,7 +66,7 @@ numbers_take zero bytes x e = subst (λ (y : List ℕ × List ℕ). TakesNumbers
 numbers_take (suc most) bytes x e = go (λ rest y. numbers_take most rest y) (strip_at (codes " ") bytes) refl e
   where
     go : ((rest : List ℕ) (y : List ℕ × List ℕ) → numbers_at most rest ≡ Ok y → TakesNumbers most rest y.0 y.1) → (o : Option (List ℕ)) → strip_at (codes " ") bytes ≡ o
-        → behind_space bytes o (λ rest. number_at rest >>= λ n. numbers_at most n.1 >>= λ others. Ok (n.0 ∷ others.0, others.1)) ≡ Ok x → TakesNumbers (suc most) bytes x.0 x.1
+        → after_space bytes o (λ rest. number_at rest >>= λ n. numbers_at most n.1 >>= λ others. Ok (n.0 ∷ others.0, others.1)) ≡ Ok x → TakesNumbers (suc most) bytes x.0 x.1
     go later None is e = subst (λ (y : List ℕ × List ℕ). TakesNumbers (suc most) bytes y.0 y.1) (ok_is ([], bytes) x e) (record { parts = refl; few = omega arith; below = tt })
     go later (Some rest) is e =
         let n = bind_ok (number_at rest) (λ n. numbers_at most n.1 >>= λ others. Ok (n.0 ∷ others.0, others.1)) x e in
@@ -79,22 +79,22 @@ numbers_take (suc most) bytes x e = go (λ rest y. numbers_take most rest y) (st
         (record { parts = whole ∙ ap (λ (t : List ℕ). t ++ o.0.1) (sym (flat_map-cons state_number n.0.0 o.0.0)); few = omega (arith, others.few); below = (number.1, others.below) })
 
 -- what follows a number of a state is no digit
-behind_numbers : (ns rest : List ℕ) → IsBehindNumber rest → IsBehindNumber (flat_map state_number ns ++ rest)
-behind_numbers [] rest h = h
-behind_numbers (n ∷ ns) rest h = refl
+after_numbers : (ns rest : List ℕ) → IsBehindNumber rest → IsBehindNumber (flat_map state_number ns ++ rest)
+after_numbers [] rest h = h
+after_numbers (n ∷ ns) rest h = refl
 
 numbers_again : (most : ℕ) (ns rest : List ℕ) → length ns ≤ most → AllByRecursion (λ n. n < NUMBER_LIMIT) ns → IsBehindNumber rest → strip_at (codes " ") rest ≡ None
     → numbers_at most (flat_map state_number ns ++ rest) ≡ Ok (ns, rest)
 unfolding numbers_at
-numbers_again zero [] rest few below behind end = refl
-numbers_again zero (n ∷ ns) rest few below behind end = absurd (omega arith)
-numbers_again (suc most) [] rest few below behind end = rw end refl
-numbers_again (suc most) (n ∷ ns) rest few below behind end =
+numbers_again zero [] rest few below thereafter end = refl
+numbers_again zero (n ∷ ns) rest few below thereafter end = absurd (omega arith)
+numbers_again (suc most) [] rest few below thereafter end = rw end refl
+numbers_again (suc most) (n ∷ ns) rest few below thereafter end =
     let tail = flat_map state_number ns ++ rest in
     let regrouped : flat_map state_number (n ∷ ns) ++ rest ≡ codes " " ++ (decimal n ++ tail) =
     ap (λ (t : List ℕ). t ++ rest) (flat_map-cons state_number n ns) ∙ append_assoc (state_number n) (flat_map state_number ns) rest ∙ append_assoc (codes " ") (decimal n) tail in
-    let others = numbers_again most ns rest (omega arith) below.1 behind end in
-    ap (numbers_at (suc most)) regrouped ∙ rw (strip_again (codes " ") (decimal n ++ tail), number_again n tail below.0 (behind_numbers ns rest behind), others) refl
+    let others = numbers_again most ns rest (omega arith) below.1 thereafter end in
+    ap (numbers_at (suc most)) regrouped ∙ rw (strip_again (codes " ") (decimal n ++ tail), number_again n tail below.0 (after_numbers ns rest thereafter), others) refl
 
 -- ---- labels
 
@@ -147,7 +147,7 @@ label_again s label front rest good =
       strip_again (codes "l ") (number_or_dash label.depart ++ t1),
       dash_again label.depart t1 form.depart refl,
       strip_again (codes " ") t2,
-      number_again label.progress t3 form.progress (behind_numbers label.numbers t4 refl),
+      number_again label.progress t3 form.progress (after_numbers label.numbers t4 refl),
       numbers_again MOST_NUMBERS label.numbers t4 form.few form.numbers refl (no_space rest),
       strip_again (codes "\n") rest,
     ) refl

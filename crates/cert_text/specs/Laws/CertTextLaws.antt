@@ -18,17 +18,17 @@ use Rattle.rule_core.specs.declared.numbers.TheConstants.{NUMBER_LIMIT}
 use Rattle.cert_text.specs.Form.{IsClaimForm, IsCertForm}
 use Rattle.cert_text.specs.Spelling.{number_line, kind_line, target_line, run_line, AreMarkLines, layers_lines, schedule_lines, claim_lines, cover_lines, IsCertText}
 use Rattle.cert_text.specs.Reading.{◌>>=◌, word_at, strip_at, number_line_at, runs_at, marks_at, target_at, shortest_at, infeasible_at, or_infeasible, kind_at, claim_of, claim_at, layers_at, whole_at, ended, cert_at}
-use Rattle.cert_text.specs.WordLaws.{bind_ok, bind_is, ok_is, guard_ok, strip_takes, strip_again, word_takes, then_takes}
-use Rattle.cert_text.specs.ItemLaws.{number_line_takes, number_line_again}
-use Rattle.cert_text.specs.RunLaws.{runs_take, runs_again}
-use Rattle.cert_text.specs.MarkTextLaws.{marks_take, marks_again}
-use Rattle.cert_text.specs.LayerLaws.{layers_take, layers_again}
+use Rattle.cert_text.specs.Laws.WordLaws.{bind_ok, bind_is, ok_is, guard_ok, strip_takes, strip_again, word_takes, then_takes}
+use Rattle.cert_text.specs.Laws.ItemLaws.{number_line_takes, number_line_again}
+use Rattle.cert_text.specs.Laws.RunLaws.{runs_take, runs_again}
+use Rattle.cert_text.specs.Laws.MarkTextLaws.{marks_take, marks_again}
+use Rattle.cert_text.specs.Laws.LayerLaws.{layers_take, layers_again}
 
--- the claim's lines behind that of its kind, up to the number of the marks
+-- the claim's lines after that of its kind, up to the number of the marks
 abbrev held_lines : Option ℕ → List StepRun → List Mark → List ℕ
 held_lines target schedule marks = target_line target ++ (schedule_lines schedule ++ number_line (codes "marks ") (length marks))
 
--- what a claim takes of the bytes behind the line of its kind
+-- what a claim takes of the bytes after the line of its kind
 record TakesHeld (params : Params) (kind : CertKind) (bytes : List ℕ) (claim : Claim) (rest : List ℕ) : Type 0 where
   kind_is : claim.kind ≡ kind
   form : IsClaimForm params kind claim.target claim.schedule claim.marks
@@ -149,12 +149,12 @@ whole_takes params bytes x low e =
     let head : bytes ≡ claim_lines cert ++ (held.text ++ c.0.1) =
     then_takes bytes (codes "duty-cert 1\n") a.0 (kind_line cert.kind ++ held_lines cert.target cert.schedule cert.marks) (held.text ++ c.0.1) (word_takes (codes "duty-cert 1\n") bytes a.0 a.1)
     (then_takes a.0 (kind_line cert.kind) k.0.1 (held_lines cert.target cert.schedule cert.marks) (held.text ++ c.0.1) (kind_takes a.0 k.0 k.1 ∙ ap (λ q. kind_line q ++ k.0.1) (sym held.kind_is)) held.parts) in
-    let behind : c.0.1 ≡ cover_lines cert.layers ++ w.0 =
+    let thereafter : c.0.1 ≡ cover_lines cert.layers ++ w.0 =
     then_takes c.0.1 (number_line (codes "layers ") (length l.0.0)) n.0.1 (layers_lines 0 l.0.0 ++ codes "end\n") w.0 (count.0 ∙ ap (λ q. number_line (codes "layers ") q ++ n.0.1) (sym layers.2))
     (then_takes n.0.1 (layers_lines 0 l.0.0) l.0.1 (codes "end\n") w.0 layers.0 (word_takes (codes "end\n") l.0.1 w.0 w.1)) in
     let whole : bytes ≡ (claim_lines cert ++ (held.text ++ cover_lines cert.layers)) ++ w.0 =
     then_takes bytes (claim_lines cert) (held.text ++ c.0.1) (held.text ++ cover_lines cert.layers) w.0 head
-    (then_takes (held.text ++ c.0.1) held.text c.0.1 (cover_lines cert.layers) w.0 refl behind) in
+    (then_takes (held.text ++ c.0.1) held.text c.0.1 (cover_lines cert.layers) w.0 refl thereafter) in
     subst (λ (y : Cert × List ℕ). TakesCert params bytes y.0 y.1) (ok_is made x w.2) (record {
       text = claim_lines cert ++ (held.text ++ cover_lines cert.layers);
       form = record { claim = subst (λ q. IsClaimForm params q cert.target cert.schedule cert.marks) (sym held.kind_is) held.form; few = rw layers.2 count.1; layers = layers.1 };
@@ -222,19 +222,19 @@ whole_again params text cert rest low form is =
     let tail4 = codes "end\n" ++ rest in
     let tail3 = layers_lines 0 cert.layers ++ tail4 in
     let tail2 = number_line (codes "layers ") (length cert.layers) ++ tail3 in
-    let behind = held ++ (is.marks ++ tail2) in
+    let thereafter = held ++ (is.marks ++ tail2) in
     let cover : cover_lines cert.layers ++ rest ≡ tail2 =
     append_assoc (number_line (codes "layers ") (length cert.layers)) (layers_lines 0 cert.layers ++ codes "end\n") rest
     ∙ ap (λ (z : List ℕ). number_line (codes "layers ") (length cert.layers) ++ z) (append_assoc (layers_lines 0 cert.layers) (codes "end\n") rest) in
-    let regrouped : text ++ rest ≡ codes "duty-cert 1\n" ++ (kind_line cert.kind ++ behind) =
+    let regrouped : text ++ rest ≡ codes "duty-cert 1\n" ++ (kind_line cert.kind ++ thereafter) =
     ap (λ (t : List ℕ). t ++ rest) is.spelled
     ∙ append_assoc (claim_lines cert) (is.marks ++ cover_lines cert.layers) rest
     ∙ ap (λ (z : List ℕ). claim_lines cert ++ z) (append_assoc is.marks (cover_lines cert.layers) rest ∙ ap (λ (z : List ℕ). is.marks ++ z) cover)
     ∙ ap (λ (z : List ℕ). codes "duty-cert 1\n" ++ z) (append_assoc (kind_line cert.kind) held (is.marks ++ tail2)) in
     ap (whole_at params) regrouped
     ∙ rw (
-      strip_again (codes "duty-cert 1\n") (kind_line cert.kind ++ behind),
-      kind_again cert.kind behind,
+      strip_again (codes "duty-cert 1\n") (kind_line cert.kind ++ thereafter),
+      kind_again cert.kind thereafter,
       held_again params cert.kind cert.target cert.schedule cert.marks is.marks tail2 low form.claim is.mark_lines,
       number_line_again (codes "layers ") (length cert.layers) tail3 form.few,
       layers_again cert.layers tail4 form.few form.layers,

@@ -1,0 +1,4 @@
+-- What follows from the definitions, for the contracts and proofs of this crate and of those above it.
+pub mod LayerLaws
+pub mod Buckets
+pub mod BucketLaws
