@@ -1,15 +1,15 @@
 -- Successors put together, answered one by one.
-use Rattle.std.proofs.Common.{◌≡◌, ℕ, ◌+◌, ◌*◌, ◌<◌, ◌≤◌, Bool, true, false, List, [], ◌∷◌, ◌++◌, length, replicate, refl, sym, ◌∙◌, ap, subst, arith, append-nil, inl, inr, Decides}
-use Rattle.std.specs.Prelude.{Option, None, Some, map, ◌⊎◌, if◌then◌else◌}
+use Rattle.std.proofs.Common.{◌≡◌, ℕ, ◌+◌, ◌*◌, Bool, true, false, List, [], ◌∷◌, ◌++◌, length, replicate, refl, sym, ◌∙◌, ap, subst, arith, inl, inr, Decides}
+use Rattle.std.specs.Prelude.{Option, None, Some, map, if◌then◌else◌}
 use Rattle.std.specs.Option.{option_to_list}
 use Rattle.duty_core.specs.declared.activity.Activity.{Activity}
 use Rattle.duty_core.specs.declared.activity.Activity.TheVariants.{Drive, Serve}
 use Rattle.duty_core.specs.Params.{unit_minutes}
 use Rattle.rule_core.specs.declared.nexts.Next.{Next}
 use Rattle.rule_core.specs.declared.nexts.Nexts.{Nexts}
-use Rattle.rule_core.specs.Reach.{IsOneOf, Reaches, listed, idle_list}
-use Rattle.rule_core.specs.ReachLaws.{reached_state}
-use Rattle.rule_core.specs.OneOf.{one_of-append, one_of-append_left, one_of-append_right, one_of-map, one_of_map}
+use Rattle.rule_core.specs.Reach.{IsOneOf, Reaches, listed}
+use Rattle.rule_core.specs.Laws.ReachLaws.{reached_state}
+use Rattle.rule_core.specs.Laws.OneOf.{one_of-append, one_of-append_left, one_of-append_right, one_of-map, one_of_map}
 use Rattle.tour_model.specs.declared.label.Label.{Label}
 use Rattle.tour_model.specs.declared.tour.Tour.{Tour}
 use Rattle.tour_model.specs.Tour.{IsTour}
@@ -18,10 +18,10 @@ use Rattle.tour_model.specs.Way.{done}
 use Rattle.cert_text.specs.declared.grown.Grown.{Grown}
 use Rattle.cert_text.specs.Problem.{Problem, departed, grow, grown_by, successors_of}
 use Rattle.cert_text.specs.Planning.{minute_of}
-use Rattle.cert_text.specs.ProblemOf.{minute_more}
-use Rattle.cert_text.specs.BetterLaws.{grown_from, grown_may, successor_by}
-use Rattle.cert_text.specs.Cover.{IsLetOff, IsCovered, IsTooLong}
-use Rattle.cert_checker.specs.Conditions.{AreAnswered, AreCovered, IsOff, TakesLong}
+use Rattle.cert_text.specs.Laws.ProblemOf.{minute_more}
+use Rattle.cert_text.specs.Laws.BetterLaws.{grown_from, grown_may, successor_by}
+use Rattle.cert_text.specs.Cover.{IsPruned, IsCovered, IsTooLong}
+use Rattle.cert_checker.specs.Conditions.{AreAnswered, AreCovered, IsPrunedAt, TakesLong}
 
 -- ---- the states of a step, one by one
 
@@ -90,33 +90,33 @@ advanced_states tour unit is_state nexts advances t one next reach s step x n i 
     let e : minute_of tour step + unit * length (replicate each x) ≡ minute_of tour (step + 1) = ap (λ u. minute_of tour step + u * length (replicate each x)) (sym one) ∙ minute_more tour t step x in
     subst (is_state n.state) e (reached_state unit is_state nexts next (replicate each x) s (minute_of tour step) (option_to_list n.mark) n.state i (reach s (minute_of tour step) x each n i o))
 
--- ---- what is let off
+-- ---- what is pruned
 
-pub long_let_off : {S : Type 0} (problem : Problem S) (target depart : Option ℕ) (step eta : ℕ) (l : Label S) → l.depart ≡ depart → problem.eta step l.progress ≡ Some eta → TakesLong target depart eta → IsTooLong problem target step l
-long_let_off problem (Some t) (Some d) step eta l e f h = record { depart = d; eta = eta; departed = e; ends = f; long = h }
-long_let_off problem (Some t) None step eta l e f h = absurd h
-long_let_off problem None depart step eta l e f h = absurd h
+pub long_pruned : {S : Type 0} (problem : Problem S) (target depart : Option ℕ) (step eta : ℕ) (l : Label S) → l.depart ≡ depart → problem.bound step l ≡ Some eta → TakesLong target depart eta → IsTooLong problem target step l
+long_pruned problem (Some t) (Some d) step eta l e f h = record { depart = d; bound = eta; departed = e; ends = f; long = h }
+long_pruned problem (Some t) None step eta l e f h = absurd h
+long_pruned problem None depart step eta l e f h = absurd h
 
-let_off_long : {S : Type 0} (problem : Problem S) (target depart : Option ℕ) (step eta : ℕ) (l : Label S) → l.depart ≡ depart → problem.eta step l.progress ≡ Some eta → IsTooLong problem target step l → TakesLong target depart eta
-let_off_long problem None depart step eta l e f h = absurd h.long
-let_off_long problem (Some t) None step eta l e f h = absurd (let q : None ≡ Some h.depart = sym e ∙ h.departed in cc)
-let_off_long problem (Some t) (Some d) step eta l e f h =
+pruned_long : {S : Type 0} (problem : Problem S) (target depart : Option ℕ) (step eta : ℕ) (l : Label S) → l.depart ≡ depart → problem.bound step l ≡ Some eta → IsTooLong problem target step l → TakesLong target depart eta
+pruned_long problem None depart step eta l e f h = absurd h.long
+pruned_long problem (Some t) None step eta l e f h = absurd (let q : None ≡ Some h.depart = sym e ∙ h.departed in cc)
+pruned_long problem (Some t) (Some d) step eta l e f h =
     let q : Some d ≡ Some h.depart = sym e ∙ h.departed in
-    let r : Some eta ≡ Some h.eta = sym f ∙ h.ends in
+    let r : Some eta ≡ Some h.bound = sym f ∙ h.ends in
     let i : d ≡ h.depart = cc in
-    let j : eta ≡ h.eta = cc in
+    let j : eta ≡ h.bound = cc in
     let le = h.long in omega arith
 
--- whether a label is let off, by where it ends at the earliest
-let_off_where : {S : Type 0} (problem : Problem S) (target : Option ℕ) (step : ℕ) (l : Label S) (o : Option ℕ) → problem.eta step l.progress ≡ o → IsOff target l.depart o → IsLetOff problem target step l
-let_off_where problem target step l None e h = inl e
-let_off_where problem target step l (Some eta) e h = inr (long_let_off problem target l.depart step eta l refl e h)
+-- whether a label is pruned, by where it ends at the earliest
+pruned_where : {S : Type 0} (problem : Problem S) (target : Option ℕ) (step : ℕ) (l : Label S) (o : Option ℕ) → problem.bound step l ≡ o → IsPrunedAt target l.depart o → IsPruned problem target step l
+pruned_where problem target step l None e h = inl e
+pruned_where problem target step l (Some eta) e h = inr (long_pruned problem target l.depart step eta l refl e h)
 
-where_let_off : {S : Type 0} (problem : Problem S) (target : Option ℕ) (step : ℕ) (l : Label S) (o : Option ℕ) → problem.eta step l.progress ≡ o → IsLetOff problem target step l → IsOff target l.depart o
-where_let_off problem target step l None e h = tt
-where_let_off problem target step l (Some eta) e h = elim h [
+where_pruned : {S : Type 0} (problem : Problem S) (target : Option ℕ) (step : ℕ) (l : Label S) (o : Option ℕ) → problem.bound step l ≡ o → IsPruned problem target step l → IsPrunedAt target l.depart o
+where_pruned problem target step l None e h = tt
+where_pruned problem target step l (Some eta) e h = elim h [
   | inl none ↦ absurd (let q : None ≡ Some eta = sym none ∙ e in cc)
-  | inr too ↦ let_off_long problem target l.depart step eta l refl e too
+  | inr too ↦ pruned_long problem target l.depart step eta l refl e too
 ]
 
 -- ---- the successors by an activity
@@ -132,19 +132,18 @@ label_grown : {S : Type 0} (step : ℕ) (l : Label S) (x : Activity) (n : Next S
 label_grown step l x n depart progress d p =
     ap (λ o. record { depart = o; progress = progress; state = n.state }) d ∙ ap (λ k. record { depart = departed l.depart x step; progress = k; state = n.state }) p
 
--- where they are let off
-pub off_answered : {S : Type 0} (problem : Problem S) (target : Option ℕ) (step : ℕ) (layer : List (Label S)) (l : Label S) (x : Activity) (depart : Option ℕ) (progress : ℕ) → depart ≡ departed l.depart x step → progress ≡ done l.progress x →
-    IsOff target depart (problem.eta (step + 1) progress) → AreAnswered problem target (step + 1) layer (grown_by problem step l x)
-off_answered problem target step layer l x depart progress d p h g o =
+-- where they are pruned
+pub off_answered : {S : Type 0} (problem : Problem S) (target : Option ℕ) (step : ℕ) (layer : List (Label S)) (l : Label S) (x : Activity) (depart : Option ℕ) → depart ≡ departed l.depart x step →
+    (bound : Option ℕ) → ((n : Next S) → problem.bound (step + 1) (grow l step x n).label ≡ bound) → IsPrunedAt target depart bound → AreAnswered problem target (step + 1) layer (grown_by problem step l x)
+off_answered problem target step layer l x depart d bound same h g o =
     let q = in_grown problem step l x g o in
     let m = (grow l step x q.0).label in
-    let off : IsOff target m.depart (problem.eta (step + 1) m.progress) = subst (λ k. IsOff target k (problem.eta (step + 1) m.progress)) d (subst (λ k. IsOff target depart (problem.eta (step + 1) k)) p h) in
-    inl (subst (λ k. IsLetOff problem target (step + 1) k.label) q.2 (let_off_where problem target (step + 1) m (problem.eta (step + 1) m.progress) refl off))
+    inl (subst (λ k. IsPruned problem target (step + 1) k.label) q.2 (pruned_where problem target (step + 1) m bound (same q.0) (subst (λ k. IsPrunedAt target k bound) d h)))
 
 -- where they are not
 pub covered_answered : {S : Type 0} (problem : Problem S) (target : Option ℕ) (step : ℕ) (layer : List (Label S)) (l : Label S) (x : Activity) (depart : Option ℕ) (progress : ℕ) (ns : List (Next S)) (b : Bool) → depart ≡ departed l.depart x step → progress ≡ done l.progress x →
-    problem.may step l.progress x ≡ true → ns ≡ problem.nexts l.state step x → (IsOff target depart (problem.eta (step + 1) progress) → ⊥) → Decides b (AreCovered problem (step + 1) layer depart progress ns) → Decides b (AreAnswered problem target (step + 1) layer (grown_by problem step l x))
-covered_answered problem target step layer l x depart progress ns b d p may e not_off c = (
+    problem.may step l.progress x ≡ true → ns ≡ problem.nexts l.state step x → (bound : Option ℕ) → ((n : Next S) → problem.bound (step + 1) (grow l step x n).label ≡ bound) → (IsPrunedAt target depart bound → ⊥) → Decides b (AreCovered problem (step + 1) layer depart progress ns) → Decides b (AreAnswered problem target (step + 1) layer (grown_by problem step l x))
+covered_answered problem target step layer l x depart progress ns b d p may e bound same not_off c = (
   (λ t g o. (
       let q = in_grown problem step l x g o in
       let here = c.0 t q.0 (subst (λ ys. IsOneOf ys q.0) (sym e) q.1) in
@@ -154,7 +153,7 @@ covered_answered problem target step layer l x depart progress ns b d p may e no
       let g = grow l step x n in
       let o : IsOneOf (grown_by problem step l x) g = subst (λ gs. IsOneOf gs g) (by_nexts problem step l x ns may e) (one_of_map (grow l step x) ns n i) in
       elim (h g o) [
-        | inl off ↦ absurd (not_off (subst (λ k. IsOff target k (problem.eta (step + 1) progress)) (sym d) (subst (λ k. IsOff target g.label.depart (problem.eta (step + 1) k)) (sym p) (where_let_off problem target (step + 1) g.label (problem.eta (step + 1) g.label.progress) refl off))))
+        | inl off ↦ absurd (not_off (subst (λ k. IsPrunedAt target k bound) (sym d) (where_pruned problem target (step + 1) g.label bound (same n) off)))
         | inr covered ↦ subst (λ k. IsCovered problem (step + 1) layer k) (sym (label_grown step l x n depart progress d p)) covered
       ]
       ))),

@@ -1,33 +1,29 @@
 -- From what is read of the bytes to what a check of them finds.
-use Rattle.std.proofs.Common.{◌≡◌, ℕ, ◌+◌, ◌<◌, ◌≤◌, Bool, List, [], ◌∷◌, length, get_or, take, drop, refl, sym, ◌∙◌, ap, subst, arith, inl, inr}
+use Rattle.std.proofs.Common.{◌≡◌, ℕ, ◌+◌, ◌<◌, ◌≤◌, Bool, List, [], ◌∷◌, length, get_or, take, drop, sym, ap, subst, arith, inl, inr}
 use Rattle.std.specs.Prelude.{zero, suc, Option, None, Some, Result, Ok, Err, MatchResult, IfErr, ◌⊎◌}
 use Rattle.std.specs.List.{AllByRecursion}
 use Rattle.std.proofs.lemmas.Bool.{cases_lt}
-use Rattle.std.proofs.lemmas.List.{take-append-drop, get_or_past}
+use Rattle.std.proofs.lemmas.List.{take-append-drop}
 use Rattle.duty_core.specs.declared.activity.Activity.{Activity}
-use Rattle.duty_core.specs.declared.mark.Mark.{Mark}
 use Rattle.duty_core.specs.declared.params.Params.{Params}
 use Rattle.duty_core.specs.declared.params.Params.TheVariants.{UsProperty, Canada}
 use Rattle.duty_core.specs.declared.params.RestWay.{RestWay}
 use Rattle.duty_core.specs.declared.limits.TheConstants.{DAY_MINUTES, CA_CYCLE_1, CA_CYCLE_2}
 use Rattle.duty_core.specs.Params.{AreGoodParams}
-use Rattle.duty_core.specs.BookLaws.{front_lawful}
+use Rattle.duty_core.specs.Laws.BookLaws.{front_lawful}
 use Rattle.duty_core.specs.Lawful.{IsLawful}
+use Rattle.rule_core.specs.Machine.{Machine}
 use Rattle.rule_core.specs.Replay.{IsFirstUnlawful}
 use Rattle.tour_model.specs.declared.label.Label.{Label}
 use Rattle.tour_model.specs.declared.limits.TheConstants.{STEP_LIMIT}
 use Rattle.tour_model.specs.declared.tour.Tour.{Tour}
-use Rattle.tour_model.specs.Layer.{layer_at}
-use Rattle.tour_model.specs.Schedule.{duration}
 use Rattle.cert_text.specs.declared.cert.Cert.{Cert}
 use Rattle.cert_text.specs.declared.cert.CertKind.{CertKind}
 use Rattle.cert_text.specs.declared.cert.CertKind.TheVariants.{Shortest, Infeasible}
 use Rattle.cert_text.specs.declared.cert.CertLabel.{CertLabel}
-use Rattle.cert_text.specs.declared.cert.StepRun.{StepRun}
 use Rattle.cert_text.specs.declared.fault.CertFault.{CertFault}
 use Rattle.cert_text.specs.declared.fault.CertFault.TheVariants as fault
-use Rattle.cert_text.specs.Cert.{acts_of_runs, IsClaim}
-use Rattle.cert_text.specs.Planning.{state_at}
+use Rattle.cert_text.specs.Planning.{problem_of, state_at}
 use Rattle.cert_text.specs.Problem.{Problem}
 use Rattle.cert_text.specs.Form.{IsCertForm, IsClaimForm, IsLayerForm}
 use Rattle.cert_text.specs.Spelling.{IsCertText}
@@ -36,11 +32,11 @@ use Rattle.cert_checker.specs.declared.verdict.Reason.{Reason}
 use Rattle.cert_checker.specs.declared.verdict.Reason.TheVariants as reason
 use Rattle.cert_checker.specs.declared.verdict.Verdict.{Verdict}
 use Rattle.cert_checker.specs.declared.verdict.Verdict.TheVariants as verdict
-use Rattle.cert_checker.specs.Books.{IsStateFor, IsStartFor, problem_for, state_for}
+use Rattle.cert_checker.specs.Books.{book_for}
 use Rattle.cert_checker.specs.Parsed.{there}
 use Rattle.cert_checker.specs.Conditions.{FailsBy, IsFirstLabel, layer_of}
-use Rattle.cert_checker.specs.Verdicts.{IsSmallCert, IsFirstFailure, Proves, first_line}
-use Rattle.cert_checker.specs.Checked.{IsVerdictFor, IsValidFor, IsCertificate, IsNoText, IsFaultyText, IsWhy, IsCheck, Follows}
+use Rattle.cert_checker.specs.Verdicts.{IsSmallCert, IsFirstFailure, IsOwnShortest, Proves, first_line}
+use Rattle.cert_checker.specs.Checked.{IsVerdictFor, IsValidFor, IsNoText, IsFaultyText, IsWhy, IsCheck, Follows}
 
 -- ---- a certificate that has a text is not large
 
@@ -110,13 +106,13 @@ not_label problem is_state state_of tour target layers first line h =
     no_fault problem is_state target h.step (there (take h.fault.index os)) (there (layer_of state_of tour problem.goal layers (h.step + 1))) (get_or os h.fault.index None)
     (subst (λ why. FailsBy problem is_state target h.step (there (take h.fault.index os)) (there (layer_of state_of tour problem.goal layers (h.step + 1))) (get_or os h.fault.index None) why) (sym h.reason) h.here.fails)
 
-not_failure : {S : Type 0} (tour : Tour) (log : List Activity) (problem : Problem S) (is_state : S → ℕ → Type 0) (starts : S → Type 0) (state_of : List ℕ → ℕ → Option S) (cert : Cert) (line : ℕ) →
-    IsFirstFailure tour log problem is_state starts state_of cert (record { line = line; reason = reason.Grammar }) → ⊥
-not_failure tour log problem is_state starts state_of cert line h = elim h [
+not_failure : {S : Type 0} (tour : Tour) (log : List Activity) (m : Machine S) (cert : Cert) (line : ℕ) →
+    IsFirstFailure tour log m cert (record { line = line; reason = reason.Grammar }) → ⊥
+not_failure tour log m cert line h = elim h [
   | inl claim ↦ claim.1
   | inr more ↦ elim more.1 [
     | inl root ↦ (let e : reason.Grammar ≡ reason.Root = root.0 in absurd (let f = e in cc))
-    | inr label ↦ not_label problem (state_at tour is_state) state_of tour cert.target cert.layers (first_line cert) line label.1
+    | inr label ↦ not_label (problem_of tour m) (state_at tour m) m.state_of tour cert.target cert.layers (first_line cert) line label.1
   ]
 ]
 
@@ -125,7 +121,7 @@ faulty tour log bytes cert line why text form v = record { cert = cert; text = t
 
 why_of : (tour : Tour) (log : List Activity) (bytes : List ℕ) (cert : Cert) (line : ℕ) (why : Reason) → IsCertText tour.params cert bytes → IsCertForm tour.params cert → IsVerdictFor tour log cert (verdict.Rejected line why) → IsWhy tour log bytes line why
 why_of tour log bytes cert line reason.Grammar text form v =
-    absurd (not_failure tour log (problem_for tour.params tour) (IsStateFor tour.params) (IsStartFor tour.params tour log) (state_for tour.params) cert line v.1)
+    absurd (not_failure tour log (book_for tour.params) cert line v.1)
 why_of tour log bytes cert line reason.TooBig text form v = faulty tour log bytes cert line reason.TooBig text form v
 why_of tour log bytes cert line reason.Serves text form v = faulty tour log bytes cert line reason.Serves text form v
 why_of tour log bytes cert line reason.Length text form v = faulty tour log bytes cert line reason.Length text form v
@@ -142,16 +138,11 @@ check_of tour log bytes cert verdict.Infeasible text form only h = (cert, (text,
 check_of tour log bytes cert (verdict.Rejected line why) text form only h =
     ((λ other c. h.0 (subst (IsValidFor tour log) (sym (only other c.1 c.0)) c.2)), why_of tour log bytes cert line why text form h)
 
--- what follows
-claim_takes : (tour : Tour) (log xs : List Activity) (kind : CertKind) (target : Option ℕ) (marks : List Mark) (steps : ℕ) → kind ≡ Shortest → target ≡ Some steps → IsClaim tour log kind target xs marks → duration xs ≡ steps
-claim_takes tour log xs Infeasible target marks steps k t h = absurd (let f : Infeasible ≡ Shortest = k in cc)
-claim_takes tour log xs Shortest target marks steps k t h = let f : Some (duration xs) ≡ Some steps = sym h.1 ∙ t in cc
-
-pub follows_of : (tour : Tour) (log : List Activity) (cert : Cert) (v : Verdict) → IsVerdictFor tour log cert v → Proves tour log (acts_of_runs cert.schedule) v → Follows tour log v
-follows_of tour log cert (verdict.Shortest steps) h p =
-    (acts_of_runs cert.schedule, p, claim_takes tour log (acts_of_runs cert.schedule) cert.kind cert.target cert.marks steps h.1 h.2 h.0.claim)
-follows_of tour log cert verdict.Infeasible h p = p
-follows_of tour log cert (verdict.Rejected line why) h p = tt
+-- what follows of the certificate that is read follows of the bytes, which are the text of no other
+pub follows_of : (tour : Tour) (log : List Activity) (bytes : List ℕ) (cert : Cert) (v : Verdict) → IsOnly tour bytes cert → Proves tour log cert v → Follows tour log bytes v
+follows_of tour log bytes cert (verdict.Shortest steps) only p = λ other c. subst (λ k. IsOwnShortest tour log k steps) (only other c.1 c.0) p
+follows_of tour log bytes cert verdict.Infeasible only p = p
+follows_of tour log bytes cert (verdict.Rejected line why) only p = tt
 
 -- ---- the parameters of the books
 

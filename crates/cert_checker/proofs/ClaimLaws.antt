@@ -1,6 +1,6 @@
 -- The steps of a claim, gathered and looked through.
-use Rattle.std.proofs.Common.{◌≡◌, ℕ, ◌+◌, ◌-◌, ◌*◌, ◌<◌, ◌≤◌, Bool, true, false, List, [], ◌∷◌, ◌++◌, length, take, drop, get_or, replicate, refl, sym, ◌∙◌, ap, subst, arith, append_assoc, append-nil, length-append}
-use Rattle.std.specs.Prelude.{All, flat_map, if◌then◌else◌}
+use Rattle.std.proofs.Common.{◌≡◌, ℕ, ◌+◌, ◌<◌, ◌≤◌, Bool, true, false, List, [], ◌∷◌, ◌++◌, length, take, drop, get_or, replicate, refl, sym, ◌∙◌, ap, subst, arith, append_assoc, length-append}
+use Rattle.std.specs.Prelude.{All, if◌then◌else◌}
 use Rattle.std.proofs.lemmas.List.Elements.{All-nil, All-cons, All-head, All-tail}
 use Rattle.std.proofs.lemmas.List.{take_more, take_all, drop_more, drop_all, take-append-drop, flat_map_more, length-replicate}
 use Rattle.duty_core.specs.declared.activity.Activity.{Activity}
@@ -9,8 +9,8 @@ use Rattle.tour_model.specs.declared.tour.Tour.{Tour}
 use Rattle.tour_model.specs.Tour.{IsTour}
 use Rattle.tour_model.specs.Word.{word_length, may_do}
 use Rattle.tour_model.specs.Way.{done, done_after, progresses, GoesFrom}
-use Rattle.tour_model.specs.WayLaws.{may_before}
-use Rattle.tour_model.specs.ServeLaws.{way_serves, serves_way, serves_done}
+use Rattle.tour_model.specs.Laws.WayLaws.{may_before}
+use Rattle.tour_model.specs.Laws.ServeLaws.{way_serves, serves_way, serves_done}
 use Rattle.tour_model.specs.Schedule.{ServesTour, units_of}
 use Rattle.cert_text.specs.declared.cert.StepRun.{StepRun}
 use Rattle.cert_text.specs.Cert.{acts_of_runs}
@@ -39,7 +39,7 @@ acts_long runs i run a lt e h =
 pub acts_whole : (runs : List StepRun) (i : ℕ) (a : List Activity) → length runs ≤ i → a ≡ acts_of_runs (take i runs) → a ≡ acts_of_runs runs
 acts_whole runs i a le h = h ∙ ap acts_of_runs (take_all i runs le)
 
--- ---- the units behind a log
+-- ---- the units after a log
 
 pub units_more : (each : ℕ) (log steps : List Activity) (i : ℕ) (x : Activity) (a b : List Activity) → i < length steps → x ≡ get_or steps i x → a ≡ log ++ units_of each (take i steps) → b ≡ a ++ replicate each x → b ≡ log ++ units_of each (take (i + 1) steps)
 units_more each log steps i x a b lt e h is =

@@ -1,15 +1,14 @@
 -- Following a history with given marks, unit by unit.
-use Rattle.std.proofs.Common.{◌≡◌, ◌↔◌, ℕ, ◌+◌, ◌*◌, ◌<◌, ◌≤◌, List, [], ◌∷◌, ◌++◌, length, take, get_or, refl, sym, ◌∙◌, ap, subst, arith, append-nil, append_assoc, inl, inr, length-append}
-use Rattle.std.specs.Prelude.{Option, None, Some, ◌⊎◌}
+use Rattle.std.proofs.Common.{◌≡◌, ℕ, ◌+◌, ◌*◌, ◌<◌, ◌≤◌, List, [], ◌∷◌, ◌++◌, length, take, get_or, refl, sym, ◌∙◌, ap, subst, arith, append-nil, inl, inr, length-append}
+use Rattle.std.specs.Prelude.{None, Some}
 use Rattle.std.specs.Option.{option_to_list}
-use Rattle.std.proofs.lemmas.List.{take_more, take_all, length-take-le, take-take, take_at, get_or-take, get_or_push, length_push, nil_from_length}
+use Rattle.std.proofs.lemmas.List.{take_more, take_all, length-take-le, take-take, take_at, get_or-take, get_or_push, length_push}
 use Rattle.duty_core.specs.declared.activity.Activity.{Activity}
 use Rattle.duty_core.specs.declared.mark.Mark.{Mark}
 use Rattle.rule_core.specs.declared.nexts.Next.{Next}
-use Rattle.rule_core.specs.declared.nexts.Nexts.{Nexts}
-use Rattle.rule_core.specs.Reach.{IsOneOf, Reaches, listed}
-use Rattle.rule_core.specs.ReachLaws.{reaches-append, reaches_parted, reached_state}
-use Rattle.rule_core.specs.OneOf.{one_of-append, one_of-append_left, one_of-append_right}
+use Rattle.rule_core.specs.Reach.{IsOneOf, Reaches}
+use Rattle.rule_core.specs.Laws.ReachLaws.{reaches-append, reaches_parted, reached_state}
+use Rattle.rule_core.specs.Laws.OneOf.{one_of-append, one_of-append_left, one_of-append_right}
 use Rattle.cert_checker.specs.declared.follow.Held.{Held}
 use Rattle.cert_checker.specs.Followed.{FollowsTo, AddsNexts, AreAfter, AreHeld, HasAllUsed}
 

@@ -1,24 +1,24 @@
 -- The conditions on a label, put together.
-use Rattle.std.proofs.Common.{◌≡◌, ℕ, ◌+◌, ◌<◌, ◌≤◌, Bool, true, false, List, [], ◌∷◌, ◌++◌, length, take, drop, get_or, refl, sym, ◌∙◌, ap, subst, arith, Decides, inl, inr}
-use Rattle.std.specs.Prelude.{Option, None, Some}
+use Rattle.std.proofs.Common.{◌≡◌, ℕ, ◌+◌, ◌<◌, ◌≤◌, Bool, true, false, List, [], ◌∷◌, ◌++◌, length, take, drop, get_or, sym, ◌∙◌, ap, subst, arith, Decides, inl, inr}
+use Rattle.std.specs.Prelude.{Option, None}
 use Rattle.std.specs.Option.{option_to_list}
 use Rattle.std.proofs.lemmas.Bool.{cases_lt}
 use Rattle.std.proofs.lemmas.List.{take-append-drop, take_more, length-map}
 use Rattle.std.proofs.lemmas.List.Sums.{sum_by_more}
 use Rattle.rule_core.specs.Reach.{IsOneOf}
-use Rattle.rule_core.specs.OneOf.{one_of-append, one_of-append_left, one_of-flat_map, one_of_flat_map}
+use Rattle.rule_core.specs.Laws.OneOf.{one_of-append, one_of-append_left, one_of-flat_map, one_of_flat_map}
 use Rattle.tour_model.specs.declared.label.Label.{Label}
 use Rattle.tour_model.specs.Layer.{layer_at}
 use Rattle.cert_text.specs.declared.cert.CertLabel.{CertLabel}
 use Rattle.cert_text.specs.Problem.{Problem}
-use Rattle.cert_text.specs.Cover.{IsLabelAt, NoneCovers, IsCovered}
+use Rattle.cert_text.specs.Cover.{IsLabelAt}
 use Rattle.tour_model.specs.declared.tour.Tour.{Tour}
 use Rattle.tour_model.specs.Word.{word_length}
 use Rattle.cert_text.specs.Planning.{minute_of}
 use Rattle.cert_checker.specs.declared.layer.LabelFault.{LabelFault}
 use Rattle.cert_checker.specs.declared.verdict.Rejection.{Rejection}
 use Rattle.cert_checker.specs.Parsed.{there, label_of, labels_of, AreStatesIn, HasLeft}
-use Rattle.cert_checker.specs.Conditions.{Passes, PassUpTo, IsAnsweredFor, IsLongEnough, IsFirstFault, IsFirstLabel, LayerPasses, LayersPass, layer_of, lines_before}
+use Rattle.cert_checker.specs.Conditions.{Passes, PassUpTo, IsFirstFault, IsFirstLabel, LayerPasses, LayersPass, layer_of, lines_before}
 
 pub label_from : {S : Type 0} (is_state : S → ℕ → Type 0) (goal step : ℕ) (l : Label S) → is_state l.state step → l.progress ≤ goal → HasLeft step l.progress l.depart → IsLabelAt is_state goal step l
 label_from is_state goal step l i w h = record { state = i; progress = w; still = h.still; departed = h.departed }
@@ -78,7 +78,7 @@ pub layers_whole : {S : Type 0} (problem : Problem S) (is_state : S → ℕ → 
     LayersPass problem is_state state_of tour target layers n
 layers_whole problem is_state state_of tour target layers step n le h k lt = h k (omega arith)
 
--- a first fault of a layer, behind layers that pass
+-- a first fault of a layer, after layers that pass
 pub fault_found : {S : Type 0} (problem : Problem S) (is_state : S → ℕ → Type 0) (state_of : List ℕ → ℕ → Option S) (tour : Tour) (target : Option ℕ) (layers : List (List CertLabel)) (first step line : ℕ) (os next : List (Option (Label S))) (f : LabelFault) (r : Rejection) →
     step < length layers → LayersPass problem is_state state_of tour target layers step → os ≡ layer_of state_of tour problem.goal layers step → next ≡ layer_of state_of tour problem.goal layers (step + 1) →
     IsFirstFault problem is_state target step os (there next) f → line ≡ first + lines_before layers step → r.reason ≡ f.reason → r.line ≡ line + f.index + 1 → IsFirstLabel problem is_state state_of tour target layers first r

@@ -8,7 +8,7 @@ use Rattle.std.proofs.lemmas.Bool.{cases_lt, cases_eq}
 use Rattle.std.proofs.lemmas.Bool.Decides.{nat_tests}
 use Rattle.std.proofs.lemmas.List.{take_more, take_all, length-map, length-set, map-set, get_or-map, get_or_past, get_or-set_same, get_or-set_other, get_or_default, get_or-take, length-take-le, flat_map_more}
 use Rattle.rule_core.specs.Reach.{IsOneOf}
-use Rattle.rule_core.specs.OneOf.{one_of-append, one_of-append_left, one_of-append_right, one_of-flat_map, one_of_flat_map, one_of-get_or}
+use Rattle.rule_core.specs.Laws.OneOf.{one_of-append, one_of-append_left, one_of-append_right, one_of-flat_map, one_of_flat_map, one_of-get_or}
 use Rattle.tour_model.specs.declared.label.Label.{Label}
 use Rattle.cert_text.specs.Problem.{Problem, is_better, later}
 use Rattle.cert_text.specs.Cover.{IsCovered, NoneCovers}
@@ -47,7 +47,7 @@ placed_none os n o lists lt e none h = record {
   same = h.same;
   placed = λ i l less at. elim (cases_lt i n) [
     | inl before ↦ h.placed i l before at
-    | inr behind ↦ (
+    | inr thereafter ↦ (
         let here : n ≡ i = omega arith in
         let absent : get_or os n None ≡ None = sym (get_or_default os n o None lt) ∙ (sym e ∙ none) in
         let f : None ≡ Some l = sym absent ∙ subst (λ k. get_or os k None ≡ Some l) (sym here) at in
@@ -84,7 +84,7 @@ placed_some {S} os n o m lists more lt e some is h = subst (ArePlacedTo os (n + 
       same = whole ∙ h.same;
       placed = λ i l less at. subst (λ k. IsOneOf (get_or (with_place lists m.progress n) (l.progress % k) []) i) (sym whole) (elim (cases_lt i n) [
         | inl before ↦ in_list lists m.progress n (l.progress % length lists) i (mod-lt m.progress inside) (h.placed i l before at)
-        | inr behind ↦ (
+        | inr thereafter ↦ (
             let here : n ≡ i = omega arith in
             let is_m : get_or os n None ≡ Some m = sym (get_or_default os n o None lt) ∙ (sym e ∙ some) in
             let f : Some m ≡ Some l = sym is_m ∙ subst (λ k. get_or os k None ≡ Some l) (sym here) at in

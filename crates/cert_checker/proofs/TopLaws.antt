@@ -1,67 +1,63 @@
 -- From the parts of a check to its verdict.
-use Rattle.std.proofs.Common.{◌≡◌, ℕ, ◌+◌, ◌*◌, ◌<◌, ◌≤◌, Bool, true, false, List, [], ◌∷◌, length, refl, sym, ◌∙◌, ap, subst, arith, inl, inr}
+use Rattle.std.proofs.Common.{◌≡◌, ℕ, ◌*◌, ◌≤◌, true, List, [], length, refl, sym, ◌∙◌, ap, subst}
 use Rattle.std.specs.Prelude.{Option, None, Some}
 use Rattle.duty_core.specs.declared.activity.Activity.{Activity}
-use Rattle.duty_core.specs.declared.mark.Mark.{Mark}
 use Rattle.duty_core.specs.declared.limits.TheConstants.{LONGEST_LOG}
 use Rattle.duty_core.specs.Params.{unit_minutes, allows}
-use Rattle.rule_core.specs.declared.nexts.Next.{Next}
-use Rattle.rule_core.specs.declared.nexts.Idles.{Idles}
 use Rattle.rule_core.specs.declared.roots.Root.{Root}
-use Rattle.rule_core.specs.Machine.{IsMachine}
+use Rattle.rule_core.specs.Machine.{Machine}
+use Rattle.rule_core.specs.Book.{IsBook}
 use Rattle.rule_core.specs.Reach.{IsOneOf}
 use Rattle.rule_core.specs.Replay.{AreRootsOf, AreRootStates}
 use Rattle.tour_model.specs.declared.label.Label.{Label}
 use Rattle.tour_model.specs.declared.tour.Tour.{Tour}
 use Rattle.tour_model.specs.Tour.{IsTour}
-use Rattle.tour_model.specs.Schedule.{log_start}
+use Rattle.tour_model.specs.Schedule.{duration, log_start}
 use Rattle.cert_text.specs.declared.cert.Cert.{Cert}
 use Rattle.cert_text.specs.declared.cert.CertKind.{CertKind}
 use Rattle.cert_text.specs.declared.cert.CertKind.TheVariants.{Shortest, Infeasible}
 use Rattle.cert_text.specs.Problem.{Problem, root_label, is_better}
 use Rattle.cert_text.specs.Planning.{problem_of, state_at, minute_of, IsLogState}
-use Rattle.cert_text.specs.ProblemOf.{problem_laws}
-use Rattle.cert_text.specs.BetterLaws.{better_from, better_on}
-use Rattle.cert_text.specs.SolutionLaws.{log_ends, log_state, valid_shortest, valid_infeasible}
+use Rattle.cert_text.specs.Laws.ProblemOf.{problem_laws}
+use Rattle.cert_text.specs.Laws.BetterLaws.{better_from, better_on}
+use Rattle.cert_text.specs.Laws.SolutionLaws.{log_ends, log_state, valid_shortest, valid_infeasible}
 use Rattle.cert_text.specs.Cert.{acts_of_runs, IsClaim, IsValidCert}
 use Rattle.cert_checker.specs.declared.verdict.Reason.{Reason}
 use Rattle.cert_checker.specs.declared.verdict.Reason.TheVariants as reason
 use Rattle.cert_checker.specs.declared.verdict.Rejection.{Rejection}
 use Rattle.cert_checker.specs.declared.verdict.Verdict.{Verdict}
 use Rattle.cert_checker.specs.declared.verdict.Verdict.TheVariants as verdict
-use Rattle.cert_checker.specs.Conditions.{Passes, FailsBy, IsFirstLabel, LayersPass}
+use Rattle.cert_checker.specs.Conditions.{Passes, FailsBy, IsFirstLabel}
 use Rattle.cert_checker.specs.Rooted.{AreRooted}
-use Rattle.cert_checker.specs.Verdicts.{IsSmallCert, StepsHold, StepsFail, ClaimHolds, IsStarted, RootsHold, IsVerdict, Proves, verdict_of}
+use Rattle.cert_checker.specs.Verdicts.{IsSmallCert, StepsHold, StepsFail, ClaimHolds, IsStarted, IsVerdict, Proves, verdict_of}
 use Rattle.cert_checker.proofs.ValidLaws.{valid_passes}
 
 -- ---- the roots
 
-pub root_states : {S : Type 0} (tour : Tour) (log : List Activity) (is_state : S → ℕ → Type 0) (root : S) (nexts : S → ℕ → Activity → List (Next S)) (advances : S → ℕ → Activity → ℕ → List (Next S)) (covers : S → S → ℕ → Bool) (tries : S → Idles) →
-    IsMachine tour.params (log_start tour log) is_state root nexts advances covers tries → IsTour tour → unit_minutes tour.params * length log ≤ LONGEST_LOG →
-    (roots : List (Root S)) → AreRootsOf (unit_minutes tour.params) nexts covers root (log_start tour log) log roots → AreRootStates is_state (minute_of tour 0) roots
-root_states tour log is_state root nexts advances covers tries m t l roots r one o =
-    log_state tour log is_state root nexts advances covers tries m t l one.state (one.marks, r.reached one o)
+pub root_states : {S : Type 0} (tour : Tour) (log : List Activity) (m : Machine S) → IsBook tour.params m → IsTour tour → unit_minutes tour.params * length log ≤ LONGEST_LOG →
+    (roots : List (Root S)) → AreRootsOf (unit_minutes tour.params) m (log_start tour log) log roots → AreRootStates m (minute_of tour 0) roots
+root_states tour log m law t l roots r one o =
+    log_state tour log m law t l one.state (one.marks, r.reached one o)
 
-pub rooted_started : {S : Type 0} (tour : Tour) (log : List Activity) (is_state : S → ℕ → Type 0) (root : S) (nexts : S → ℕ → Activity → List (Next S)) (advances : S → ℕ → Activity → ℕ → List (Next S)) (covers : S → S → ℕ → Bool) (tries : S → Idles) →
-    IsMachine tour.params (log_start tour log) is_state root nexts advances covers tries → IsTour tour → unit_minutes tour.params * length log ≤ LONGEST_LOG →
-    (roots : List (Root S)) → AreRootsOf (unit_minutes tour.params) nexts covers root (log_start tour log) log roots →
-    (layer : List (Label S)) → ((x : Label S) → IsOneOf layer x → is_state x.state (minute_of tour 0)) →
-    AreRooted (problem_of tour advances covers tries) layer roots → IsStarted (problem_of tour advances covers tries) (IsLogState tour log root nexts) layer
-rooted_started tour log is_state root nexts advances covers tries m t l roots r layer states h s o =
-    let problem = problem_of tour advances covers tries in
+pub rooted_started : {S : Type 0} (tour : Tour) (log : List Activity) (m : Machine S) → IsBook tour.params m → IsTour tour → unit_minutes tour.params * length log ≤ LONGEST_LOG →
+    (roots : List (Root S)) → AreRootsOf (unit_minutes tour.params) m (log_start tour log) log roots →
+    (layer : List (Label S)) → ((x : Label S) → IsOneOf layer x → m.is_state x.state (minute_of tour 0)) →
+    AreRooted (problem_of tour m) layer roots → IsStarted (problem_of tour m) (IsLogState tour log m) layer
+rooted_started tour log m law t l roots r layer states h s o =
+    let problem = problem_of tour m in
     let q = r.all s o.0 o.1 in
     let c = h q.0 q.1 in
-    let cov : covers q.0.state s (minute_of tour 0) ≡ true = subst (λ n. covers q.0.state s n ≡ true) (log_ends tour t log l) q.2 in
+    let cov : m.covers q.0.state s (minute_of tour 0) ≡ true = subst (λ n. m.covers q.0.state s n ≡ true) (log_ends tour t log l) q.2 in
     let mid : is_better problem 0 (root_label q.0.state) (root_label s) ≡ true = better_from problem 0 (root_label q.0.state) (root_label s) (record { depart = refl; progress = refl; state = cov }) in (
       c.0,
       c.1,
-      better_on problem (state_at tour is_state) (allows tour.params) (problem_laws tour (log_start tour log) is_state root nexts advances covers tries m t) 0 c.0 (root_label q.0.state) (root_label s)
-          (states c.0 c.1) (log_state tour log is_state root nexts advances covers tries m t l q.0.state (q.0.marks, r.reached q.0 q.1)) (log_state tour log is_state root nexts advances covers tries m t l s o) c.2 mid,
+      better_on problem (state_at tour m) (allows tour.params) (problem_laws tour m law t) 0 c.0 (root_label q.0.state) (root_label s)
+          (states c.0 c.1) (log_state tour log m law t l q.0.state (q.0.marks, r.reached q.0 q.1)) (log_state tour log m law t l s o) c.2 mid,
     )
 
-pub started_rooted : {S : Type 0} (tour : Tour) (log : List Activity) (problem : Problem S) (root : S) (nexts : S → ℕ → Activity → List (Next S)) (covers : S → S → ℕ → Bool) (roots : List (Root S)) →
-    AreRootsOf (unit_minutes tour.params) nexts covers root (log_start tour log) log roots → (layer : List (Label S)) → IsStarted problem (IsLogState tour log root nexts) layer → AreRooted problem layer roots
-started_rooted tour log problem root nexts covers roots r layer h one o = h one.state (one.marks, r.reached one o)
+pub started_rooted : {S : Type 0} (tour : Tour) (log : List Activity) (m : Machine S) (roots : List (Root S)) →
+    AreRootsOf (unit_minutes tour.params) m (log_start tour log) log roots → (layer : List (Label S)) → IsStarted (problem_of tour m) (IsLogState tour log m) layer → AreRooted (problem_of tour m) layer roots
+started_rooted tour log m roots r layer h one o = h one.state (one.marks, r.reached one o)
 
 -- ---- the claim
 
@@ -86,9 +82,9 @@ steps_fail tour log cert xs reason.Finished f h = f
 steps_fail tour log cert xs reason.Repeated f h = f
 steps_fail tour log cert xs reason.Successor f h = f
 
-pub claim_fails : {S : Type 0} (tour : Tour) (log : List Activity) (problem : Problem S) (is_state : S → ℕ → Type 0) (starts : S → Type 0) (state_of : List ℕ → ℕ → Option S) (cert : Cert) (r : Reason) →
-    cert.kind ≡ Shortest → StepsFail tour log cert (acts_of_runs cert.schedule) r → IsValidCert tour log problem is_state starts state_of cert → ⊥
-claim_fails tour log problem is_state starts state_of cert r k f v = steps_fail tour log cert (acts_of_runs cert.schedule) r f (steps_of_claim tour log cert k v.claim)
+pub claim_fails : {S : Type 0} (tour : Tour) (log : List Activity) (m : Machine S) (cert : Cert) (r : Reason) →
+    cert.kind ≡ Shortest → StepsFail tour log cert (acts_of_runs cert.schedule) r → IsValidCert tour log m cert → ⊥
+claim_fails tour log m cert r k f v = steps_fail tour log cert (acts_of_runs cert.schedule) r f (steps_of_claim tour log cert k v.claim)
 
 -- ---- the labels
 
@@ -106,10 +102,10 @@ fails_passes problem is_state target step earlier next (Some l) reason.Length f 
 fails_passes problem is_state target step earlier next (Some l) reason.Lawful f p = f
 fails_passes problem is_state target step earlier next (Some l) reason.Root f p = f
 
-pub label_fails : {S : Type 0} (tour : Tour) (log : List Activity) (problem : Problem S) (is_state : S → ℕ → Type 0) (starts : S → Type 0) (state_of : List ℕ → ℕ → Option S) (cert : Cert) (first : ℕ) (r : Rejection) →
-    IsFirstLabel problem (state_at tour is_state) state_of tour cert.target cert.layers first r → IsValidCert tour log problem is_state starts state_of cert → ⊥
-label_fails tour log problem is_state starts state_of cert first r f v =
-    fails_passes problem (state_at tour is_state) cert.target f.step _ _ _ f.fault.reason f.here.fails (valid_passes tour log problem is_state starts state_of cert v f.step f.fault.index f.here.within)
+pub label_fails : {S : Type 0} (tour : Tour) (log : List Activity) (m : Machine S) (cert : Cert) (first : ℕ) (r : Rejection) →
+    IsFirstLabel (problem_of tour m) (state_at tour m) m.state_of tour cert.target cert.layers first r → IsValidCert tour log m cert → ⊥
+label_fails tour log m cert first r f v =
+    fails_passes (problem_of tour m) (state_at tour m) cert.target f.step _ _ _ f.fault.reason f.here.fails (valid_passes tour log m cert v f.step f.fault.index f.here.within)
 
 -- ---- the verdict
 
@@ -121,15 +117,20 @@ infeasible_kind : (tour : Tour) (log : List Activity) (cert : Cert) (k : CertKin
 infeasible_kind tour log cert Infeasible e t h = e
 infeasible_kind tour log cert Shortest e t h = absurd (let q = (steps_of_claim tour log cert e h).1 in let f : None ≡ Some _ = sym t ∙ q in cc)
 
-pub accepted_is : {S : Type 0} (tour : Tour) (log : List Activity) (problem : Problem S) (is_state : S → ℕ → Type 0) (starts : S → Type 0) (state_of : List ℕ → ℕ → Option S) (cert : Cert) (o : Option ℕ) → cert.target ≡ o → IsSmallCert cert →
-    IsValidCert tour log problem is_state starts state_of cert → IsVerdict tour log problem is_state starts state_of cert (verdict_of o)
-accepted_is tour log problem is_state starts state_of cert None t s v = (v, infeasible_kind tour log cert cert.kind refl t v.claim)
-accepted_is tour log problem is_state starts state_of cert (Some n) t s v = (v, shortest_kind cert cert.kind n refl t s.none, t)
+pub accepted_is : {S : Type 0} (tour : Tour) (log : List Activity) (m : Machine S) (cert : Cert) (o : Option ℕ) → cert.target ≡ o → IsSmallCert cert →
+    IsValidCert tour log m cert → IsVerdict tour log m cert (verdict_of o)
+accepted_is tour log m cert None t s v = (v, infeasible_kind tour log cert cert.kind refl t v.claim)
+accepted_is tour log m cert (Some n) t s v = (v, shortest_kind cert cert.kind n refl t s.none, t)
 
 -- what a verdict proves
-pub verdict_proves : {S : Type 0} (tour : Tour) (log : List Activity) (is_state : S → ℕ → Type 0) (root : S) (nexts : S → ℕ → Activity → List (Next S)) (advances : S → ℕ → Activity → ℕ → List (Next S)) (covers : S → S → ℕ → Bool) (tries : S → Idles) →
-    IsMachine tour.params (log_start tour log) is_state root nexts advances covers tries → IsTour tour → unit_minutes tour.params * length log ≤ LONGEST_LOG → (state_of : List ℕ → ℕ → Option S) (cert : Cert) (v : Verdict) →
-    IsVerdict tour log (problem_of tour advances covers tries) is_state (IsLogState tour log root nexts) state_of cert v → Proves tour log (acts_of_runs cert.schedule) v
-verdict_proves tour log is_state root nexts advances covers tries m t l state_of cert (verdict.Shortest steps) h = valid_shortest tour log is_state root nexts advances covers tries m t l state_of cert h.0 h.1
-verdict_proves tour log is_state root nexts advances covers tries m t l state_of cert verdict.Infeasible h = valid_infeasible tour log is_state root nexts advances covers tries m t l state_of cert h.0 h.1
-verdict_proves tour log is_state root nexts advances covers tries m t l state_of cert (verdict.Rejected line reason) h = tt
+pub verdict_proves : {S : Type 0} (tour : Tour) (log : List Activity) (m : Machine S) → IsBook tour.params m → IsTour tour → unit_minutes tour.params * length log ≤ LONGEST_LOG → (cert : Cert) (v : Verdict) →
+    IsVerdict tour log m cert v → Proves tour log cert v
+verdict_proves tour log m law t l cert (verdict.Shortest steps) h =
+    let claim = steps_of_claim tour log cert h.1 h.0.claim in
+    record {
+      solves = record { serves = claim.0; lawful = claim.2 };
+      shortest = valid_shortest tour log m law t l cert h.0 h.1;
+      takes = (let e : Some (duration (acts_of_runs cert.schedule)) ≡ Some steps = sym claim.1 ∙ h.2 in cc);
+    }
+verdict_proves tour log m law t l cert verdict.Infeasible h = valid_infeasible tour log m law t l cert h.0 h.1
+verdict_proves tour log m law t l cert (verdict.Rejected line reason) h = tt

@@ -1,8 +1,8 @@
--- What it means that bytes are a certificate of a tour behind a log, and what a check of them finds.
-use Rattle.std.specs.Prelude.{◌≡◌, ℕ, ◌⊎◌, List, Option, Some}
+-- What it means that bytes are a certificate of a tour after a log, and what a check of them finds.
+use Rattle.std.specs.Prelude.{◌≡◌, ℕ, List, Some}
 use Rattle.duty_core.specs.declared.activity.Activity.{Activity}
 use Rattle.tour_model.specs.declared.tour.Tour.{Tour}
-use Rattle.tour_model.specs.Schedule.{duration, IsShortest, IsInfeasible}
+use Rattle.tour_model.specs.Schedule.{IsInfeasible}
 use Rattle.cert_text.specs.declared.cert.Cert.{Cert}
 use Rattle.cert_text.specs.declared.cert.CertKind.TheVariants.{Shortest, Infeasible}
 use Rattle.cert_text.specs.Cert.{IsValidCert}
@@ -13,16 +13,16 @@ use Rattle.cert_checker.specs.declared.verdict.Reason.{Reason}
 use Rattle.cert_checker.specs.declared.verdict.Reason.TheVariants as reason
 use Rattle.cert_checker.specs.declared.verdict.Verdict.{Verdict}
 use Rattle.cert_checker.specs.declared.verdict.Verdict.TheVariants as verdict
-use Rattle.cert_checker.specs.Books.{IsStateFor, IsStartFor, problem_for, state_for}
-use Rattle.cert_checker.specs.Verdicts.{IsVerdict, IsFirstFailure}
+use Rattle.cert_checker.specs.Books.{book_for}
+use Rattle.cert_checker.specs.Verdicts.{IsVerdict, IsFirstFailure, IsOwnShortest}
 
--- The certificate is valid for the tour behind the log, by the rule book of the tour's parameters.
+-- The certificate is valid for the tour after the log, by the rule book of the tour's parameters.
 abbrev pub IsValidFor : Tour → List Activity → Cert → Type 0
-IsValidFor tour log cert = IsValidCert tour log (problem_for tour.params tour) (IsStateFor tour.params) (IsStartFor tour.params tour log) (state_for tour.params) cert
+IsValidFor tour log cert = IsValidCert tour log (book_for tour.params) cert
 
--- What a verdict says of a certificate of the tour behind the log, by that book.
+-- What a verdict says of a certificate of the tour after the log, by that book.
 abbrev pub IsVerdictFor : Tour → List Activity → Cert → Verdict → Type 0
-IsVerdictFor tour log cert = IsVerdict tour log (problem_for tour.params tour) (IsStateFor tour.params) (IsStartFor tour.params tour log) (state_for tour.params) cert
+IsVerdictFor tour log cert = IsVerdict tour log (book_for tour.params) cert
 
 -- The bytes are the text of this certificate, and it is valid.
 abbrev pub IsCertificate : Tour → List Activity → List ℕ → Cert → Type 0
@@ -38,7 +38,7 @@ pub record IsFaultyText (tour : Tour) (log : List Activity) (bytes : List ℕ) (
   pub cert : Cert
   pub text : IsCertText tour.params cert bytes
   pub form : IsCertForm tour.params cert
-  pub first : IsFirstFailure tour log (problem_for tour.params tour) (IsStateFor tour.params) (IsStartFor tour.params tour log) (state_for tour.params) cert (record { line = line; reason = why })
+  pub first : IsFirstFailure tour log (book_for tour.params) cert (record { line = line; reason = why })
 
 -- The line and the reason tell why the bytes are no certificate.
 abbrev pub IsWhy : Tour → List Activity → List ℕ → ℕ → Reason → Type 0
@@ -51,8 +51,8 @@ IsCheck tour log bytes (verdict.Shortest steps) = (cert : Cert) × IsCertificate
 IsCheck tour log bytes verdict.Infeasible = (cert : Cert) × IsCertificate tour log bytes cert × (cert.kind ≡ Infeasible)
 IsCheck tour log bytes (verdict.Rejected line why) = ((cert : Cert) → IsCertificate tour log bytes cert → ⊥) × IsWhy tour log bytes line why
 
--- What follows from a verdict: a shortest schedule takes so many steps, or there is no solution.
-abbrev pub Follows : Tour → List Activity → Verdict → Type 0
-Follows tour log (verdict.Shortest steps) = (xs : List Activity) × IsShortest tour log xs × (duration xs ≡ steps)
-Follows tour log verdict.Infeasible = IsInfeasible tour log
-Follows tour log (verdict.Rejected line why) = Unit {0}
+-- What follows from a verdict on the bytes: the certificate of which they are the text has a schedule that is a shortest one and takes so many steps, or there is no solution.
+abbrev pub Follows : Tour → List Activity → List ℕ → Verdict → Type 0
+Follows tour log bytes (verdict.Shortest steps) = (cert : Cert) → IsCertificate tour log bytes cert → IsOwnShortest tour log cert steps
+Follows tour log bytes verdict.Infeasible = IsInfeasible tour log
+Follows tour log bytes (verdict.Rejected line why) = Unit {0}

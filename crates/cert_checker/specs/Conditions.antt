@@ -1,6 +1,5 @@
 -- The conditions on the labels of a certificate, in their order.
-use Rattle.std.specs.Prelude.{◌≡◌, ℕ, ◌+◌, ◌-◌, ◌<◌, ◌≤◌, List, [], Option, None, Some, ◌⊎◌, MatchOption, take, length, slice_index_or, sum_by}
-use Rattle.duty_core.specs.declared.activity.Activity.{Activity}
+use Rattle.std.specs.Prelude.{◌≡◌, ℕ, ◌+◌, ◌-◌, ◌<◌, ◌≤◌, List, Option, None, Some, ◌⊎◌, take, length, slice_index_or, sum_by}
 use Rattle.rule_core.specs.declared.nexts.Next.{Next}
 use Rattle.rule_core.specs.Reach.{IsOneOf}
 use Rattle.tour_model.specs.declared.label.Label.{Label}
@@ -10,7 +9,7 @@ use Rattle.cert_text.specs.declared.cert.CertLabel.{CertLabel}
 use Rattle.cert_text.specs.declared.grown.Grown.{Grown}
 use Rattle.cert_text.specs.Problem.{Problem, successors_of}
 use Rattle.cert_text.specs.Planning.{minute_of}
-use Rattle.cert_text.specs.Cover.{IsAtLeast, IsLabelAt, IsLetOff, IsCovered, NoneCovers, taken}
+use Rattle.cert_text.specs.Cover.{IsAtLeast, IsLabelAt, IsPruned, IsCovered, NoneCovers, taken}
 use Rattle.cert_checker.specs.declared.verdict.Reason.{Reason}
 use Rattle.cert_checker.specs.declared.verdict.Reason.TheVariants as reason
 use Rattle.cert_checker.specs.declared.layer.LabelFault.{LabelFault}
@@ -23,18 +22,18 @@ TakesLong None depart eta = ⊥
 TakesLong (Some target) None eta = ⊥
 TakesLong (Some target) (Some depart) eta = target ≤ (eta - depart)
 
--- A label of this departure that ends there at the earliest is let off; so is one that ends nowhere.
-abbrev pub IsOff : Option ℕ → Option ℕ → Option ℕ → Type 0
-IsOff target depart None = Unit {0}
-IsOff target depart (Some eta) = TakesLong target depart eta
+-- A label of this departure that ends there at the earliest is pruned; so is one that ends nowhere.
+abbrev pub IsPrunedAt : Option ℕ → Option ℕ → Option ℕ → Type 0
+IsPrunedAt target depart None = Unit {0}
+IsPrunedAt target depart (Some eta) = TakesLong target depart eta
 
 -- For each of these states, a label of the layer is better than one of this departure and progress in it.
 abbrev pub AreCovered : {S : Type 0} → Problem S → ℕ → List (Label S) → Option ℕ → ℕ → List (Next S) → Type 0
 AreCovered {S} problem step layer depart progress ns = (n : Next S) → IsOneOf ns n → IsCovered problem step layer (record { depart = depart; progress = progress; state = n.state })
 
--- Each of these successors, labels of this step, is let off, or a label of the layer is better.
+-- Each of these successors, labels of this step, is pruned, or a label of the layer is better.
 abbrev pub AreAnswered : {S : Type 0} → Problem S → Option ℕ → ℕ → List (Label S) → List (Grown S) → Type 0
-AreAnswered {S} problem target step layer gs = (g : Grown S) → IsOneOf gs g → IsLetOff problem target step g.label ⊎ IsCovered problem step layer g.label
+AreAnswered {S} problem target step layer gs = (g : Grown S) → IsOneOf gs g → IsPruned problem target step g.label ⊎ IsCovered problem step layer g.label
 
 -- A finished label has not taken less than the target.
 abbrev pub IsLongEnough : {S : Type 0} → Problem S → Option ℕ → ℕ → Label S → Type 0

@@ -5,7 +5,7 @@ use Rattle.std.specs.Option.{option_to_list}
 use Rattle.rule_core.specs.Reach.{IsOneOf}
 use Rattle.tour_model.specs.declared.label.Label.{Label}
 
--- the lists behind the vectors
+-- the lists after the vectors
 abbrev pub plain : {X : Type 0} → List (Vec X) → List (List X)
 plain vs = map (λ v. v.items) vs
 

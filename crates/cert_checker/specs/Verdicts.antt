@@ -1,19 +1,19 @@
 -- What a check finds, by the definitions.
 use Rattle.std.specs.Prelude.{◌≡◌, ℕ, ◌+◌, ◌<◌, List, [], ◌∷◌, Option, None, Some, ◌⊎◌, length}
 use Rattle.duty_core.specs.declared.activity.Activity.{Activity}
-use Rattle.duty_core.specs.declared.mark.Mark.{Mark}
 use Rattle.duty_core.specs.Lawful.{IsLawfulWith}
+use Rattle.rule_core.specs.Machine.{Machine}
 use Rattle.tour_model.specs.declared.label.Label.{Label}
 use Rattle.tour_model.specs.declared.tour.Tour.{Tour}
 use Rattle.tour_model.specs.declared.limits.TheConstants.{STEP_LIMIT}
 use Rattle.tour_model.specs.Layer.{layer_at}
-use Rattle.tour_model.specs.Schedule.{duration, history_of, log_start, ServesTour, IsShortest, IsInfeasible}
+use Rattle.tour_model.specs.Word.{word_length}
+use Rattle.tour_model.specs.Schedule.{duration, history_of, log_start, ServesTour, IsSolutionWith, IsShortest, IsInfeasible}
 use Rattle.cert_text.specs.declared.cert.Cert.{Cert}
-use Rattle.cert_text.specs.declared.cert.CertKind.{CertKind}
 use Rattle.cert_text.specs.declared.cert.CertKind.TheVariants.{Shortest, Infeasible}
 use Rattle.cert_text.specs.declared.cert.CertLabel.{CertLabel}
 use Rattle.cert_text.specs.Problem.{Problem, root_label}
-use Rattle.cert_text.specs.Planning.{state_at}
+use Rattle.cert_text.specs.Planning.{problem_of, state_at, IsLogState}
 use Rattle.cert_text.specs.Cover.{IsCovered}
 use Rattle.cert_text.specs.Cert.{acts_of_runs, IsClaim, IsValidCert}
 use Rattle.cert_checker.specs.declared.verdict.Reason.{Reason}
@@ -23,7 +23,7 @@ use Rattle.cert_checker.specs.declared.verdict.TheConstants.{SCHEDULE_LINE}
 use Rattle.cert_checker.specs.declared.verdict.Verdict.{Verdict}
 use Rattle.cert_checker.specs.declared.verdict.Verdict.TheVariants as verdict
 use Rattle.cert_checker.specs.Parsed.{there}
-use Rattle.cert_checker.specs.Conditions.{layer_of, LayersPass, IsFirstLabel}
+use Rattle.cert_checker.specs.Conditions.{layer_of, IsFirstLabel}
 
 -- What a certificate that is read from a text keeps: one that there is no solution has no target, no run and no mark, and nothing has 1,000,000 parts.
 pub record IsSmallCert (cert : Cert) : Type 0 where
@@ -35,11 +35,11 @@ pub record IsSmallCert (cert : Cert) : Type 0 where
 
 -- # The lines
 
--- that of the number of marks, behind a line for each run
+-- that of the number of marks, after a line for each run
 abbrev pub marks_line : Cert → ℕ
 marks_line cert = SCHEDULE_LINE + length cert.schedule + 1
 
--- that of the number of layers, behind a line for each mark
+-- that of the number of layers, after a line for each mark
 abbrev pub layers_line : Cert → ℕ
 layers_line cert = marks_line cert + length cert.marks + 1
 
@@ -54,7 +54,7 @@ root_line cert (layer ∷ more) = first_line cert
 
 -- # The conditions
 
--- The steps serve the tour, take as long as the target, and are lawful behind the log with the certificate's marks.
+-- The steps serve the tour, take as long as the target, and are lawful after the log with the certificate's marks.
 abbrev pub StepsHold : Tour → List Activity → Cert → List Activity → Type 0
 StepsHold tour log cert xs = ServesTour tour xs × (cert.target ≡ Some (duration xs)) × IsLawfulWith tour.params (log_start tour log) (history_of tour log xs) cert.marks
 
@@ -83,29 +83,33 @@ abbrev pub IsStarted : {S : Type 0} → Problem S → (S → Type 0) → List (L
 IsStarted {S} problem starts layer = (s : S) → starts s → IsCovered problem 0 layer (root_label s)
 
 -- The same of layer 0 of a certificate.
-abbrev pub RootsHold : {S : Type 0} → Problem S → (S → Type 0) → (List ℕ → ℕ → Option S) → Tour → Cert → Type 0
-RootsHold problem starts state_of tour cert = IsStarted problem starts (there (layer_of state_of tour problem.goal cert.layers 0))
+abbrev pub RootsHold : {S : Type 0} → Tour → List Activity → Machine S → Cert → Type 0
+RootsHold tour log m cert = IsStarted (problem_of tour m) (IsLogState tour log m) (there (layer_of m.state_of tour (word_length tour) cert.layers 0))
 
 -- This is the first condition that fails, in the order of the lines, and on one line in that of the reasons: of the claim, of the roots, of a label.
-abbrev pub IsFirstFailure : {S : Type 0} → Tour → List Activity → Problem S → (S → ℕ → Type 0) → (S → Type 0) → (List ℕ → ℕ → Option S) → Cert → Rejection → Type 0
-IsFirstFailure tour log problem is_state starts state_of cert r =
+abbrev pub IsFirstFailure : {S : Type 0} → Tour → List Activity → Machine S → Cert → Rejection → Type 0
+IsFirstFailure tour log m cert r =
     ClaimFails tour log cert r
-    ⊎ (ClaimHolds tour log cert × ((r.reason ≡ reason.Root) × (r.line ≡ root_line cert cert.layers) × (RootsHold problem starts state_of tour cert → ⊥)
-    ⊎ (RootsHold problem starts state_of tour cert × IsFirstLabel problem (state_at tour is_state) state_of tour cert.target cert.layers (first_line cert) r)))
+    ⊎ (ClaimHolds tour log cert × ((r.reason ≡ reason.Root) × (r.line ≡ root_line cert cert.layers) × (RootsHold tour log m cert → ⊥)
+    ⊎ (RootsHold tour log m cert × IsFirstLabel (problem_of tour m) (state_at tour m) m.state_of tour cert.target cert.layers (first_line cert) r)))
 
--- What a verdict says of a certificate.
-abbrev pub IsVerdict : {S : Type 0} → Tour → List Activity → Problem S → (S → ℕ → Type 0) → (S → Type 0) → (List ℕ → ℕ → Option S) → Cert → Verdict → Type 0
-IsVerdict tour log problem is_state starts state_of cert (verdict.Shortest steps) =
-    IsValidCert tour log problem is_state starts state_of cert × (cert.kind ≡ Shortest) × (cert.target ≡ Some steps)
-IsVerdict tour log problem is_state starts state_of cert verdict.Infeasible = IsValidCert tour log problem is_state starts state_of cert × (cert.kind ≡ Infeasible)
-IsVerdict tour log problem is_state starts state_of cert (verdict.Rejected line reason) =
-    (IsValidCert tour log problem is_state starts state_of cert → ⊥) × IsFirstFailure tour log problem is_state starts state_of cert (record { line = line; reason = reason })
+-- What a verdict says of a certificate, by a book.
+abbrev pub IsVerdict : {S : Type 0} → Tour → List Activity → Machine S → Cert → Verdict → Type 0
+IsVerdict tour log m cert (verdict.Shortest steps) = IsValidCert tour log m cert × (cert.kind ≡ Shortest) × (cert.target ≡ Some steps)
+IsVerdict tour log m cert verdict.Infeasible = IsValidCert tour log m cert × (cert.kind ≡ Infeasible)
+IsVerdict tour log m cert (verdict.Rejected line reason) = (IsValidCert tour log m cert → ⊥) × IsFirstFailure tour log m cert (record { line = line; reason = reason })
 
--- What follows from a verdict: the schedule is shortest, or there is none.
-abbrev pub Proves : Tour → List Activity → List Activity → Verdict → Type 0
-Proves tour log xs (verdict.Shortest steps) = IsShortest tour log xs
-Proves tour log xs verdict.Infeasible = IsInfeasible tour log
-Proves tour log xs (verdict.Rejected line reason) = Unit {0}
+-- The certificate's own schedule is a solution with its own marks, than which none is shorter, and it takes so many steps.
+pub record IsOwnShortest (tour : Tour) (log : List Activity) (cert : Cert) (steps : ℕ) : Type 0 where
+  pub solves : IsSolutionWith tour log (acts_of_runs cert.schedule) cert.marks
+  pub shortest : IsShortest tour log (acts_of_runs cert.schedule)
+  pub takes : duration (acts_of_runs cert.schedule) ≡ steps
+
+-- What follows from a verdict on a certificate: its own schedule is a shortest one, or there is no solution.
+abbrev pub Proves : Tour → List Activity → Cert → Verdict → Type 0
+Proves tour log cert (verdict.Shortest steps) = IsOwnShortest tour log cert steps
+Proves tour log cert verdict.Infeasible = IsInfeasible tour log
+Proves tour log cert (verdict.Rejected line reason) = Unit {0}
 
 -- the verdict on a valid certificate of this target
 abbrev pub verdict_of : Option ℕ → Verdict

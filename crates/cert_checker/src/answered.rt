@@ -1,4 +1,4 @@
-//! Whether the successors of a label are let off or answered.
+//! Whether the successors of a label are pruned or answered.
 ghost use Rattle.std.specs.Prelude.{◌≡◌, ◌+◌, ◌<◌, ◌≤◌, Decides, IfOk};
 ghost use Rattle.std.specs.Option.{option_to_list};
 ghost use Rattle.rule_core.specs.Reach.{listed, IsOneOf};
@@ -11,7 +11,7 @@ ghost use Rattle.tour_model.specs.Word.{word_length};
 ghost use Rattle.cert_text.specs.Problem.{departed, grown_by, successors_of};
 ghost use Rattle.cert_text.specs.Planning.{problem_of, minute_of};
 ghost use Rattle.cert_checker.specs.Parsed.{there, AreStatesIn};
-ghost use Rattle.cert_checker.specs.Conditions.{AreAnswered, AreCovered, IsOff, TakesLong};
+ghost use Rattle.cert_checker.specs.Conditions.{AreAnswered, AreCovered, IsPrunedAt, TakesLong};
 
 use crate::covered::is_covered;
 use crate::listing::Listing;
@@ -31,9 +31,9 @@ fn is_too_long(target: Option<u32>, depart: Option<u32>, eta: u32) -> bool
     }
 }
 
-/// Whether a label of this departure and progress is let off at this step: its windows can no longer
+/// Whether a label of this departure and progress is pruned at this step: its windows can no longer
 /// be met, or it cannot beat the target.
-fn is_let_off(
+fn is_pruned(
     tour: &Tour,
     target: Option<u32>,
     step: u32,
@@ -43,7 +43,7 @@ fn is_let_off(
     requires tour { IsTour tour.now }
     requires progress { progress ≤ word_length tour.now }
     requires step { step < STEP_LIMIT }
-    ensures { Decides result (IsOff target depart (eta_of tour.now step progress)) }
+    ensures { Decides result (IsPrunedAt target depart (eta_of tour.now step progress)) }
 {
     match tour.eta(step, progress) {
         None => true,
@@ -86,10 +86,10 @@ fn is_next_covered<B: RuleBook>(
     next: &Option<Next<B::State>>,
 ) -> bool
     requires tour { IsTour tour.now }
-    requires labels { AreStatesIn (λ s. B.is_state_at book.now s (minute_of tour.now step)) labels.now }
-    requires state { (n : Next B.State) → IsOneOf (option_to_list next.now) n → B.is_state_at book.now n.state (minute_of tour.now step) }
+    requires labels { AreStatesIn (λ s. (B.machine book.now).is_state s (minute_of tour.now step)) labels.now }
+    requires state { (n : Next B.State) → IsOneOf (option_to_list next.now) n → (B.machine book.now).is_state n.state (minute_of tour.now step) }
     requires step { step < STEP_LIMIT }
-    ensures { Decides result (AreCovered (problem_of tour.now (B.advances_of book.now) (B.covering book.now) (B.idles_of book.now)) step (there labels.now) depart progress (option_to_list next.now)) }
+    ensures { Decides result (AreCovered (problem_of tour.now (B.machine book.now)) step (there labels.now) depart progress (option_to_list next.now)) }
 {
     match next {
         None => true,
@@ -109,10 +109,10 @@ fn are_nexts_covered<B: RuleBook>(
     nexts: &Nexts<B::State>,
 ) -> bool
     requires tour { IsTour tour.now }
-    requires labels { AreStatesIn (λ s. B.is_state_at book.now s (minute_of tour.now step)) labels.now }
-    requires states { (n : Next B.State) → IsOneOf (listed nexts.now) n → B.is_state_at book.now n.state (minute_of tour.now step) }
+    requires labels { AreStatesIn (λ s. (B.machine book.now).is_state s (minute_of tour.now step)) labels.now }
+    requires states { (n : Next B.State) → IsOneOf (listed nexts.now) n → (B.machine book.now).is_state n.state (minute_of tour.now step) }
     requires step { step < STEP_LIMIT }
-    ensures { Decides result (AreCovered (problem_of tour.now (B.advances_of book.now) (B.covering book.now) (B.idles_of book.now)) step (there labels.now) depart progress (listed nexts.now)) }
+    ensures { Decides result (AreCovered (problem_of tour.now (B.machine book.now)) step (there labels.now) depart progress (listed nexts.now)) }
 {
     if !is_next_covered(book, tour, step, labels, depart, progress, &nexts.a) {
         return false;
@@ -124,7 +124,7 @@ fn are_nexts_covered<B: RuleBook>(
 }
 
 /// Whether the label's successors by the activity are answered: there is none where the tour does
-/// not allow it. All of them are let off, or none is.
+/// not allow it. All of them are pruned, or none is.
 fn are_answered_by<B: RuleBook>(
     book: &B,
     tour: &Tour,
@@ -135,26 +135,26 @@ fn are_answered_by<B: RuleBook>(
     act: Activity,
 ) -> Result<bool, NoMemory>
     requires tour { IsTour tour.now }
-    requires params { B.params_of book.now ≡ tour.now.params }
-    requires labels { AreStatesIn (λ s. B.is_state_at book.now s (minute_of tour.now (step + 1))) labels.now }
-    requires state { B.is_state_at book.now label.now.state (minute_of tour.now step) }
+    requires params { (B.machine book.now).params ≡ tour.now.params }
+    requires labels { AreStatesIn (λ s. (B.machine book.now).is_state s (minute_of tour.now (step + 1))) labels.now }
+    requires state { (B.machine book.now).is_state label.now.state (minute_of tour.now step) }
     requires progress { label.now.progress < word_length tour.now }
     requires step { step + 1 < STEP_LIMIT }
-    ensures { IfOk result (λ b. Decides b (AreAnswered (problem_of tour.now (B.advances_of book.now) (B.covering book.now) (B.idles_of book.now)) target (step + 1) (there labels.now) (grown_by (problem_of tour.now (B.advances_of book.now) (B.covering book.now) (B.idles_of book.now)) step label.now act))) }
+    ensures { IfOk result (λ b. Decides b (AreAnswered (problem_of tour.now (B.machine book.now)) target (step + 1) (there labels.now) (grown_by (problem_of tour.now (B.machine book.now)) step label.now act))) }
 {
     if !tour.may_do(step, label.progress, act) {
         return Ok(true);
     }
     let depart = departure(label.depart, act, step);
     let progress = progress_after(label.progress, act);
-    if is_let_off(tour, target, step + 1, depart, progress) {
+    if is_pruned(tour, target, step + 1, depart, progress) {
         return Ok(true);
     }
     let units = tour.grid / unit_of(tour.params);
     let nexts = book.advance(&label.state, minute_at(tour, step), act, units)?;
     Ok(are_nexts_covered(book, tour, step + 1, labels, depart, progress, &nexts))
 }
-/// Whether each successor of the label is let off, or one of the labels of the next step is better.
+/// Whether each successor of the label is pruned, or one of the labels of the next step is better.
 pub fn are_answered<B: RuleBook>(
     book: &B,
     tour: &Tour,
@@ -164,12 +164,12 @@ pub fn are_answered<B: RuleBook>(
     label: &Label<B::State>,
 ) -> Result<bool, NoMemory>
     requires tour { IsTour tour.now }
-    requires params { B.params_of book.now ≡ tour.now.params }
-    requires labels { AreStatesIn (λ s. B.is_state_at book.now s (minute_of tour.now (step + 1))) labels.now }
-    requires state { B.is_state_at book.now label.now.state (minute_of tour.now step) }
+    requires params { (B.machine book.now).params ≡ tour.now.params }
+    requires labels { AreStatesIn (λ s. (B.machine book.now).is_state s (minute_of tour.now (step + 1))) labels.now }
+    requires state { (B.machine book.now).is_state label.now.state (minute_of tour.now step) }
     requires progress { label.now.progress < word_length tour.now }
     requires step { step + 1 < STEP_LIMIT }
-    ensures { IfOk result (λ b. Decides b (AreAnswered (problem_of tour.now (B.advances_of book.now) (B.covering book.now) (B.idles_of book.now)) target (step + 1) (there labels.now) (successors_of (problem_of tour.now (B.advances_of book.now) (B.covering book.now) (B.idles_of book.now)) step label.now))) }
+    ensures { IfOk result (λ b. Decides b (AreAnswered (problem_of tour.now (B.machine book.now)) target (step + 1) (there labels.now) (successors_of (problem_of tour.now (B.machine book.now)) step label.now))) }
 {
     let Idles { first, second } = book.idles(&label.state);
     if !are_answered_by(book, tour, target, step, labels, label, Activity::Drive)? {

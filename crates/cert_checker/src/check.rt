@@ -6,8 +6,7 @@ ghost use Rattle.rule_core.specs.Replay.{AreRootStates, AreRootsOf};
 ghost use Rattle.tour_model.specs.Schedule.{log_start};
 ghost use Rattle.tour_model.specs.Tour.{IsTour};
 ghost use Rattle.tour_model.specs.Word.{word_length};
-ghost use Rattle.cert_text.specs.Cert.{acts_of_runs};
-ghost use Rattle.cert_text.specs.Planning.{problem_of, minute_of, IsLogState};
+ghost use Rattle.cert_text.specs.Planning.{problem_of, minute_of};
 ghost use Rattle.cert_checker.specs.Parsed.{there};
 ghost use Rattle.cert_checker.specs.Conditions.{layer_of};
 ghost use Rattle.cert_checker.specs.Rooted.{AreRooted};
@@ -67,10 +66,10 @@ fn do_roots_hold<B: RuleBook>(
     cert: &Cert,
 ) -> Result<bool, NoMemory>
     requires tour { IsTour tour.now }
-    requires params { B.params_of book.now ≡ tour.now.params }
-    requires roots { AreRootStates (B.is_state_at book.now) (minute_of tour.now 0) roots.now }
-    ensures { IfOk result (λ b. Decides b (AreRooted (problem_of tour.now (B.advances_of book.now) (B.covering book.now) (B.idles_of book.now))
-        (there (layer_of (B.state_of book.now) tour.now (word_length tour.now) cert.now.layers 0)) roots.now)) }
+    requires params { (B.machine book.now).params ≡ tour.now.params }
+    requires roots { AreRootStates (B.machine book.now) (minute_of tour.now 0) roots.now }
+    ensures { IfOk result (λ b. Decides b (AreRooted (problem_of tour.now (B.machine book.now))
+        (there (layer_of (B.machine book.now).state_of tour.now (word_length tour.now) cert.now.layers 0)) roots.now)) }
 {
     let labels = read_layer(alloc, book, tour, tour.word_len(), cert.layers.items(), 0)?;
     Ok(are_rooted(book, tour, &labels, roots.items()))
@@ -86,10 +85,10 @@ fn accepted(cert: &Cert) -> Verdict
     }
 }
 
-/// Checks a certificate of the tour behind the log, which leaves these roots.
+/// Checks a certificate of the tour after the log, which leaves these roots.
 ///
-/// It is accepted exactly where it is valid. Then the schedule of one of kind shortest is a shortest
-/// one, and where one of kind infeasible is accepted, there is no solution. Else the first line at
+/// It is accepted exactly where it is valid. Then the schedule of one of kind shortest is lawful with
+/// its marks and a shortest one, and where one of kind infeasible is accepted, there is no solution. Else the first line at
 /// which a condition fails is named, and the first that fails there.
 pub fn check_parsed<B: RuleBook>(
     alloc: Global,
@@ -100,13 +99,12 @@ pub fn check_parsed<B: RuleBook>(
     cert: &Cert,
 ) -> Result<Verdict, NoMemory>
     requires tour { IsTour tour.now }
-    requires params { B.params_of book.now ≡ tour.now.params }
+    requires params { (B.machine book.now).params ≡ tour.now.params }
     requires short { unit_minutes tour.now.params * length log.now ≤ LONGEST_LOG }
-    requires roots { AreRootsOf (unit_minutes tour.now.params) (B.nexts_of book.now) (B.covering book.now) (B.root_of book.now (log_start tour.now log.now)) (log_start tour.now log.now) log.now roots.now }
+    requires roots { AreRootsOf (unit_minutes tour.now.params) (B.machine book.now) (log_start tour.now log.now) log.now roots.now }
     requires cert { IsSmallCert cert.now }
-    ensures verdict { IfOk result (IsVerdict tour.now log.now (problem_of tour.now (B.advances_of book.now) (B.covering book.now) (B.idles_of book.now)) (B.is_state_at book.now)
-        (IsLogState tour.now log.now (B.root_of book.now (log_start tour.now log.now)) (B.nexts_of book.now)) (B.state_of book.now) cert.now) }
-    ensures proves { IfOk result (Proves tour.now log.now (acts_of_runs cert.now.schedule)) }
+    ensures verdict { IfOk result (IsVerdict tour.now log.now (B.machine book.now) cert.now) }
+    ensures proves { IfOk result (Proves tour.now log.now cert.now) }
 {
     if let Some(reason) = fault_of_claim(alloc, book, tour, log, cert)? {
         let line = claim_line(cert, reason);

@@ -65,7 +65,7 @@ fn serves(tour: &Tour, steps: &[Activity]) -> bool
     progress == goal
 }
 
-/// The log, and behind it the steps.
+/// The log, and after it the steps.
 fn history_with(tour: &Tour, log: &Timeline, steps: &[Activity]) -> Result<Timeline, NoMemory>
     requires { IsTour tour.now }
     ensures { IfOk result (λ history. history ≡ history_of tour.now log.now steps.now) }
@@ -80,7 +80,7 @@ fn history_with(tour: &Tour, log: &Timeline, steps: &[Activity]) -> Result<Timel
     Ok(history)
 }
 
-/// Whether the log with the steps behind it is lawful with these marks.
+/// Whether the log with the steps after it is lawful with these marks.
 fn is_lawful<B: RuleBook>(
     alloc: Global,
     book: &B,
@@ -90,7 +90,7 @@ fn is_lawful<B: RuleBook>(
     marks: &[Mark],
 ) -> Result<bool, NoMemory>
     requires tour { IsTour tour.now }
-    requires params { B.params_of book.now ≡ tour.now.params }
+    requires params { (B.machine book.now).params ≡ tour.now.params }
     requires short { unit_minutes tour.now.params * length log.now ≤ LONGEST_LOG }
     requires serves { ServesTour tour.now steps.now }
     ensures { IfOk result (λ b. Decides b (IsLawfulWith tour.now.params (log_start tour.now log.now) (history_of tour.now log.now steps.now) marks.now)) }
@@ -110,7 +110,7 @@ fn fault_of_steps<B: RuleBook>(
     steps: &[Activity],
 ) -> Result<Option<Reason>, NoMemory>
     requires tour { IsTour tour.now }
-    requires params { B.params_of book.now ≡ tour.now.params }
+    requires params { (B.machine book.now).params ≡ tour.now.params }
     requires short { unit_minutes tour.now.params * length log.now ≤ LONGEST_LOG }
     requires few { length steps.now ≤ LONGEST_TOUR }
     ensures { IfOk result (λ o. MatchOption o (StepsHold tour.now log.now cert.now steps.now) (StepsFail tour.now log.now cert.now steps.now)) }
@@ -136,7 +136,7 @@ pub fn fault_of_claim<B: RuleBook>(
     cert: &Cert,
 ) -> Result<Option<Reason>, NoMemory>
     requires tour { IsTour tour.now }
-    requires params { B.params_of book.now ≡ tour.now.params }
+    requires params { (B.machine book.now).params ≡ tour.now.params }
     requires short { unit_minutes tour.now.params * length log.now ≤ LONGEST_LOG }
     requires none { cert.now.kind ≡ Infeasible → (cert.now.target ≡ None) × (cert.now.schedule ≡ []) × (cert.now.marks ≡ []) }
     ensures { IfOk result (λ o. MatchOption o (ClaimHolds tour.now log.now cert.now) (λ r. (cert.now.kind ≡ Shortest) × StepsFail tour.now log.now cert.now (acts_of_runs cert.now.schedule) r)) }

@@ -35,10 +35,10 @@ fn is_better<B: RuleBook>(
     state: &B::State,
 ) -> bool
     requires tour { IsTour tour.now }
-    requires label { B.is_state_at book.now label.now.state (minute_of tour.now step) }
-    requires state { B.is_state_at book.now state.now (minute_of tour.now step) }
+    requires label { (B.machine book.now).is_state label.now.state (minute_of tour.now step) }
+    requires state { (B.machine book.now).is_state state.now (minute_of tour.now step) }
     requires step { step < STEP_LIMIT }
-    ensures { result ≡ is_better (problem_of tour.now (B.advances_of book.now) (B.covering book.now) (B.idles_of book.now)) step label.now
+    ensures { result ≡ is_better (problem_of tour.now (B.machine book.now)) step label.now
         (record { depart = depart; progress = progress; state = state.now }) }
 {
     label.progress == progress
@@ -59,10 +59,10 @@ fn is_better_at<B: RuleBook>(
     state: &B::State,
 ) -> bool
     requires tour { IsTour tour.now }
-    requires labels { AreStatesIn (λ s. B.is_state_at book.now s (minute_of tour.now step)) labels.now }
-    requires state { B.is_state_at book.now state.now (minute_of tour.now step) }
+    requires labels { AreStatesIn (λ s. (B.machine book.now).is_state s (minute_of tour.now step)) labels.now }
+    requires state { (B.machine book.now).is_state state.now (minute_of tour.now step) }
     requires step { step < STEP_LIMIT }
-    ensures { Decides result (IsCovered (problem_of tour.now (B.advances_of book.now) (B.covering book.now) (B.idles_of book.now)) step (label_at labels.now place)
+    ensures { Decides result (IsCovered (problem_of tour.now (B.machine book.now)) step (label_at labels.now place)
         (record { depart = depart; progress = progress; state = state.now })) }
 {
     if place >= labels.len() {
@@ -87,10 +87,10 @@ fn is_any_better<B: RuleBook>(
     state: &B::State,
 ) -> bool
     requires tour { IsTour tour.now }
-    requires labels { AreStatesIn (λ s. B.is_state_at book.now s (minute_of tour.now step)) labels.now }
-    requires state { B.is_state_at book.now state.now (minute_of tour.now step) }
+    requires labels { AreStatesIn (λ s. (B.machine book.now).is_state s (minute_of tour.now step)) labels.now }
+    requires state { (B.machine book.now).is_state state.now (minute_of tour.now step) }
     requires step { step < STEP_LIMIT }
-    ensures { Decides result (IsCovered (problem_of tour.now (B.advances_of book.now) (B.covering book.now) (B.idles_of book.now)) step (labels_at labels.now places.now)
+    ensures { Decides result (IsCovered (problem_of tour.now (B.machine book.now)) step (labels_at labels.now places.now)
         (record { depart = depart; progress = progress; state = state.now })) }
 {
     for place in places {
@@ -114,11 +114,11 @@ pub fn is_covered_before<B: RuleBook>(
     state: &B::State,
 ) -> bool
     requires tour { IsTour tour.now }
-    requires labels { AreStatesIn (λ s. B.is_state_at book.now s (minute_of tour.now step)) labels.now }
+    requires labels { AreStatesIn (λ s. (B.machine book.now).is_state s (minute_of tour.now step)) labels.now }
     requires count { count ≤ length labels.now }
-    requires state { B.is_state_at book.now state.now (minute_of tour.now step) }
+    requires state { (B.machine book.now).is_state state.now (minute_of tour.now step) }
     requires step { step < STEP_LIMIT }
-    ensures { Decides result (IsCovered (problem_of tour.now (B.advances_of book.now) (B.covering book.now) (B.idles_of book.now)) step (there (take count labels.now))
+    ensures { Decides result (IsCovered (problem_of tour.now (B.machine book.now)) step (there (take count labels.now))
         (record { depart = depart; progress = progress; state = state.now })) }
 {
     if count == 0 {
@@ -140,10 +140,10 @@ pub fn is_covered<B: RuleBook>(
     state: &B::State,
 ) -> bool
     requires tour { IsTour tour.now }
-    requires labels { AreStatesIn (λ s. B.is_state_at book.now s (minute_of tour.now step)) labels.now }
-    requires state { B.is_state_at book.now state.now (minute_of tour.now step) }
+    requires labels { AreStatesIn (λ s. (B.machine book.now).is_state s (minute_of tour.now step)) labels.now }
+    requires state { (B.machine book.now).is_state state.now (minute_of tour.now step) }
     requires step { step < STEP_LIMIT }
-    ensures { Decides result (IsCovered (problem_of tour.now (B.advances_of book.now) (B.covering book.now) (B.idles_of book.now)) step (there labels.now)
+    ensures { Decides result (IsCovered (problem_of tour.now (B.machine book.now)) step (there labels.now)
         (record { depart = depart; progress = progress; state = state.now })) }
 {
     let count = labels.items().len();

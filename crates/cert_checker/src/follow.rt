@@ -72,10 +72,10 @@ fn held_after<B: RuleBook>(
     at: Minute,
     act: Activity,
 ) -> Result<Vec<Held<B::State>>, NoMemory>
-    requires states { (e : Held B.State) → IsOneOf held.items e → B.is_state_at book.now e.state at }
+    requires states { (e : Held B.State) → IsOneOf held.items e → (B.machine book.now).is_state e.state at }
     requires within { (e : Held B.State) → IsOneOf held.items e → e.used ≤ length marks.now }
-    requires range { at + unit_minutes (B.params_of book.now) < MINUTE_LIMIT }
-    ensures { IfOk result (λ after. AreAfter (B.nexts_of book.now) at act marks.now held.items after.items) }
+    requires range { at + unit_minutes (B.machine book.now).params < MINUTE_LIMIT }
+    ensures { IfOk result (λ after. AreAfter (B.machine book.now).nexts at act marks.now held.items after.items) }
 {
     let mut after = Vec::new(alloc);
     for one in held {
@@ -106,8 +106,8 @@ pub fn is_lawful_with<B: RuleBook>(
     first: Minute,
     marks: &[Mark],
 ) -> Result<bool, NoMemory>
-    requires { IsTimed (B.params_of book.now) first history.now }
-    ensures { IfOk result (λ b. Decides b (IsLawfulWith (B.params_of book.now) first history.now marks.now)) }
+    requires { IsTimed (B.machine book.now).params first history.now }
+    ensures { IfOk result (λ b. Decides b (IsLawfulWith (B.machine book.now).params first history.now marks.now)) }
 {
     let minutes = unit_of(book.params());
     let mut held = Vec::new(alloc);

@@ -64,12 +64,12 @@ fn is_answered_for<B: RuleBook>(
     next: &Listing<B::State>,
 ) -> Result<bool, NoMemory>
     requires tour { IsTour tour.now }
-    requires params { B.params_of book.now ≡ tour.now.params }
+    requires params { (B.machine book.now).params ≡ tour.now.params }
     requires goal { goal ≡ word_length tour.now }
-    requires state { B.is_state_at book.now label.now.state (minute_of tour.now step) }
-    requires next { AreStatesIn (λ s. B.is_state_at book.now s (minute_of tour.now (step + 1))) next.now }
+    requires state { (B.machine book.now).is_state label.now.state (minute_of tour.now step) }
+    requires next { AreStatesIn (λ s. (B.machine book.now).is_state s (minute_of tour.now (step + 1))) next.now }
     requires step { step + 1 < STEP_LIMIT }
-    ensures { IfOk result (λ b. Decides b (IsAnsweredFor (problem_of tour.now (B.advances_of book.now) (B.covering book.now) (B.idles_of book.now)) target step (there next.now) label.now)) }
+    ensures { IfOk result (λ b. Decides b (IsAnsweredFor (problem_of tour.now (B.machine book.now)) target step (there next.now) label.now)) }
 {
     if label.progress >= goal {
         return Ok(true);
@@ -77,7 +77,7 @@ fn is_answered_for<B: RuleBook>(
     are_answered(book, tour, target, step, next, label)
 }
 
-/// The first condition that fails at the label, where one does: behind those before this place of
+/// The first condition that fails at the label, where one does: after those before this place of
 /// its layer, and before those of the next.
 pub fn fault_of<B: RuleBook>(
     book: &B,
@@ -91,18 +91,18 @@ pub fn fault_of<B: RuleBook>(
     next: &Listing<B::State>,
 ) -> Result<Option<Reason>, NoMemory>
     requires tour { IsTour tour.now }
-    requires params { B.params_of book.now ≡ tour.now.params }
+    requires params { (B.machine book.now).params ≡ tour.now.params }
     requires goal { goal ≡ word_length tour.now }
-    requires state { B.is_state_at book.now label.now.state (minute_of tour.now step) }
+    requires state { (B.machine book.now).is_state label.now.state (minute_of tour.now step) }
     requires progress { label.now.progress ≤ goal }
-    requires labels { AreStatesIn (λ s. B.is_state_at book.now s (minute_of tour.now step)) labels.now }
+    requires labels { AreStatesIn (λ s. (B.machine book.now).is_state s (minute_of tour.now step)) labels.now }
     requires place { place ≤ length labels.now }
-    requires next { AreStatesIn (λ s. B.is_state_at book.now s (minute_of tour.now (step + 1))) next.now }
+    requires next { AreStatesIn (λ s. (B.machine book.now).is_state s (minute_of tour.now (step + 1))) next.now }
     requires step { step + 1 < STEP_LIMIT }
     ensures { IfOk result (λ o. MatchOption o
-        (Passes (problem_of tour.now (B.advances_of book.now) (B.covering book.now) (B.idles_of book.now)) (state_at tour.now (B.is_state_at book.now)) target step
+        (Passes (problem_of tour.now (B.machine book.now)) (state_at tour.now (B.machine book.now)) target step
         (there (take place labels.now)) (there next.now) (Some label.now))
-        (FailsBy (problem_of tour.now (B.advances_of book.now) (B.covering book.now) (B.idles_of book.now)) (state_at tour.now (B.is_state_at book.now)) target step
+        (FailsBy (problem_of tour.now (B.machine book.now)) (state_at tour.now (B.machine book.now)) target step
         (there (take place labels.now)) (there next.now) (Some label.now))) }
 {
     if !has_left(step, label.progress, label.depart) {

@@ -35,17 +35,17 @@ fn fault_at<B: RuleBook>(
     next: &Listing<B::State>,
 ) -> Result<Option<Reason>, NoMemory>
     requires tour { IsTour tour.now }
-    requires params { B.params_of book.now ≡ tour.now.params }
+    requires params { (B.machine book.now).params ≡ tour.now.params }
     requires goal { goal ≡ word_length tour.now }
-    requires state { (l : Label B.State) → label.now ≡ Some l → B.is_state_at book.now l.state (minute_of tour.now step) }
+    requires state { (l : Label B.State) → label.now ≡ Some l → (B.machine book.now).is_state l.state (minute_of tour.now step) }
     requires progress { (l : Label B.State) → label.now ≡ Some l → l.progress ≤ goal }
-    requires labels { AreStatesIn (λ s. B.is_state_at book.now s (minute_of tour.now step)) labels.now }
+    requires labels { AreStatesIn (λ s. (B.machine book.now).is_state s (minute_of tour.now step)) labels.now }
     requires place { place ≤ length labels.now }
-    requires next { AreStatesIn (λ s. B.is_state_at book.now s (minute_of tour.now (step + 1))) next.now }
+    requires next { AreStatesIn (λ s. (B.machine book.now).is_state s (minute_of tour.now (step + 1))) next.now }
     requires step { step + 1 < STEP_LIMIT }
     ensures { IfOk result (λ o. MatchOption o
-        (Passes (problem_of tour.now (B.advances_of book.now) (B.covering book.now) (B.idles_of book.now)) (state_at tour.now (B.is_state_at book.now)) target step (there (take place labels.now)) (there next.now) label.now)
-        (FailsBy (problem_of tour.now (B.advances_of book.now) (B.covering book.now) (B.idles_of book.now)) (state_at tour.now (B.is_state_at book.now)) target step (there (take place labels.now)) (there next.now) label.now)) }
+        (Passes (problem_of tour.now (B.machine book.now)) (state_at tour.now (B.machine book.now)) target step (there (take place labels.now)) (there next.now) label.now)
+        (FailsBy (problem_of tour.now (B.machine book.now)) (state_at tour.now (B.machine book.now)) target step (there (take place labels.now)) (there next.now) label.now)) }
 {
     match label {
         None => Ok(Some(Reason::State)),
@@ -64,16 +64,16 @@ pub fn first_fault<B: RuleBook>(
     next: &Listing<B::State>,
 ) -> Result<Option<LabelFault>, NoMemory>
     requires tour { IsTour tour.now }
-    requires params { B.params_of book.now ≡ tour.now.params }
+    requires params { (B.machine book.now).params ≡ tour.now.params }
     requires goal { goal ≡ word_length tour.now }
     requires within { AreWithin goal labels.now }
-    requires labels { AreStatesIn (λ s. B.is_state_at book.now s (minute_of tour.now step)) labels.now }
-    requires next { AreStatesIn (λ s. B.is_state_at book.now s (minute_of tour.now (step + 1))) next.now }
+    requires labels { AreStatesIn (λ s. (B.machine book.now).is_state s (minute_of tour.now step)) labels.now }
+    requires next { AreStatesIn (λ s. (B.machine book.now).is_state s (minute_of tour.now (step + 1))) next.now }
     requires step { step + 1 < STEP_LIMIT }
     ensures { IfOk result (λ o. MatchOption o
-        (PassUpTo (problem_of tour.now (B.advances_of book.now) (B.covering book.now) (B.idles_of book.now)) (state_at tour.now (B.is_state_at book.now)) target step
+        (PassUpTo (problem_of tour.now (B.machine book.now)) (state_at tour.now (B.machine book.now)) target step
         labels.now (there next.now) (length labels.now))
-        (IsFirstFault (problem_of tour.now (B.advances_of book.now) (B.covering book.now) (B.idles_of book.now)) (state_at tour.now (B.is_state_at book.now)) target step
+        (IsFirstFault (problem_of tour.now (B.machine book.now)) (state_at tour.now (B.machine book.now)) target step
         labels.now (there next.now))) }
 {
     for (index, label) in labels.items().iter().enumerate() {

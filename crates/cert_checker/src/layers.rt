@@ -27,14 +27,14 @@ pub fn first_label<B: RuleBook>(
     layers: &CertLayers,
 ) -> Result<Option<Rejection>, NoMemory>
     requires tour { IsTour tour.now }
-    requires params { B.params_of book.now ≡ tour.now.params }
+    requires params { (B.machine book.now).params ≡ tour.now.params }
     requires first { first < 2 ^ 32 }
     requires layers { length layers.now < STEP_LIMIT }
     requires labels { (step : ℕ) → length (layer_at layers.now step) < STEP_LIMIT }
     ensures { IfOk result (λ o. MatchOption o
-        (LayersPass (problem_of tour.now (B.advances_of book.now) (B.covering book.now) (B.idles_of book.now)) (state_at tour.now (B.is_state_at book.now)) (B.state_of book.now) tour.now target
+        (LayersPass (problem_of tour.now (B.machine book.now)) (state_at tour.now (B.machine book.now)) (B.machine book.now).state_of tour.now target
         layers.now (length layers.now))
-        (IsFirstLabel (problem_of tour.now (B.advances_of book.now) (B.covering book.now) (B.idles_of book.now)) (state_at tour.now (B.is_state_at book.now)) (B.state_of book.now) tour.now target
+        (IsFirstLabel (problem_of tour.now (B.machine book.now)) (state_at tour.now (B.machine book.now)) (B.machine book.now).state_of tour.now target
         layers.now first)) }
 {
     let goal = tour.word_len();

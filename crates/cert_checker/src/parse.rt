@@ -21,7 +21,7 @@ fn read_label<B: RuleBook>(
     at: Minute,
     label: &CertLabel,
 ) -> Result<Option<Label<B::State>>, NoMemory>
-    ensures { IfOk result (λ o. o ≡ label_of (B.state_of book.now) goal at label.now) }
+    ensures { IfOk result (λ o. o ≡ label_of (B.machine book.now).state_of goal at label.now) }
 {
     let Some(state) = book.read_state(label.numbers.items(), at)? else {
         return Ok(None);
@@ -44,7 +44,7 @@ fn read_labels<B: RuleBook>(
     at: Minute,
     labels: &[CertLabel],
 ) -> Result<Vec<Option<Label<B::State>>>, NoMemory>
-    ensures { IfOk result (λ list. list.items ≡ labels_of (B.state_of book.now) goal at labels.now) }
+    ensures { IfOk result (λ list. list.items ≡ labels_of (B.machine book.now).state_of goal at labels.now) }
 {
     let mut list = Vec::new(alloc);
     for label in labels {
@@ -64,8 +64,8 @@ pub fn read_layer<B: RuleBook>(
 ) -> Result<Listing<B::State>, NoMemory>
     requires tour { IsTour tour.now }
     requires step { step < STEP_LIMIT }
-    ensures labels { IfOk result (λ list. list ≡ labels_of (B.state_of book.now) goal (minute_of tour.now step) (layer_at layers.now step)) }
-    ensures states { IfOk result (λ list. AreStatesIn (λ s. B.is_state_at book.now s (minute_of tour.now step)) list) }
+    ensures labels { IfOk result (λ list. list ≡ labels_of (B.machine book.now).state_of goal (minute_of tour.now step) (layer_at layers.now step)) }
+    ensures states { IfOk result (λ list. AreStatesIn (λ s. (B.machine book.now).is_state s (minute_of tour.now step)) list) }
     ensures within { IfOk result (λ list. AreWithin goal list) }
 {
     let at = minute_at(tour, step);

@@ -21,9 +21,9 @@ pub fn are_rooted<B: RuleBook>(
     roots: &[Root<B::State>],
 ) -> bool
     requires tour { IsTour tour.now }
-    requires labels { AreStatesIn (λ s. B.is_state_at book.now s (minute_of tour.now 0)) labels.now }
-    requires roots { AreRootStates (B.is_state_at book.now) (minute_of tour.now 0) roots.now }
-    ensures { Decides result (AreRooted (problem_of tour.now (B.advances_of book.now) (B.covering book.now) (B.idles_of book.now)) (there labels.now) roots.now) }
+    requires labels { AreStatesIn (λ s. (B.machine book.now).is_state s (minute_of tour.now 0)) labels.now }
+    requires roots { AreRootStates (B.machine book.now) (minute_of tour.now 0) roots.now }
+    ensures { Decides result (AreRooted (problem_of tour.now (B.machine book.now)) (there labels.now) roots.now) }
 {
     for root in roots {
         if !is_covered(book, tour, 0, labels, None, 0, &root.state) {

@@ -93,7 +93,7 @@ fn tour_of(alloc: Global, stop: Stop) -> Result<Tour, NoMemory>
     })
 }
 
-/// What a check of the bytes finds, for the tour behind an empty log.
+/// What a check of the bytes finds, for the tour after an empty log.
 fn verdict(alloc: Global, tour: &Tour, text: &[u8]) -> Result<Option<Verdict>, NoMemory>
     requires tour { IsTour tour.now }
     requires params { tour.now.params ≡ UsProperty false 8 0 }
@@ -107,7 +107,7 @@ fn verdict(alloc: Global, tour: &Tour, text: &[u8]) -> Result<Option<Verdict>, N
     }
 }
 
-/// Puts a line behind the text.
+/// Puts a line after the text.
 fn put_line(text: &mut Vec<u8>, line: &str) -> Result<(), NoMemory> {
     text.extend_from_slice(line.as_bytes())?;
     text.push(b'\n')?;
@@ -219,7 +219,7 @@ fn names_the_first_condition_on_the_claim_that_fails(rt: HostRuntime) -> Result<
     is_rejected(&rt, alloc, 11, 1, &["l - 0 7"], 10, Reason::Root)
 }
 
-/// The label of layer 1 with another one behind it.
+/// The label of layer 1 with another one after it.
 fn layer_with(label: &str) -> [&str; 3] {
     ["layer 1 2", LINES[12], label]
 }

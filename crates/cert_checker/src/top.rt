@@ -5,8 +5,6 @@ ghost use Rattle.duty_core.specs.Lawful.{IsLawful};
 ghost use Rattle.duty_core.specs.Params.{unit_minutes};
 ghost use Rattle.tour_model.specs.Schedule.{log_start};
 ghost use Rattle.tour_model.specs.Tour.{IsTour};
-ghost use Rattle.cert_text.specs.Cert.{acts_of_runs};
-ghost use Rattle.cert_text.specs.Planning.{problem_of, IsLogState};
 ghost use Rattle.cert_checker.specs.Verdicts.{IsSmallCert, IsVerdict, Proves};
 ghost use Rattle.cert_checker.specs.Checked.{IsVerdictFor, IsCheck, Follows};
 
@@ -31,13 +29,12 @@ fn check_by<B: RuleBook>(
     cert: &Cert,
 ) -> Result<Verdict, NoMemory>
     requires tour { IsTour tour.now }
-    requires params { B.params_of book.now ≡ tour.now.params }
+    requires params { (B.machine book.now).params ≡ tour.now.params }
     requires short { unit_minutes tour.now.params * length log.now ≤ LONGEST_LOG }
     requires lawful { IsLawful tour.now.params (log_start tour.now log.now) log.now }
     requires cert { IsSmallCert cert.now }
-    ensures verdict { IfOk result (IsVerdict tour.now log.now (problem_of tour.now (B.advances_of book.now) (B.covering book.now) (B.idles_of book.now)) (B.is_state_at book.now)
-        (IsLogState tour.now log.now (B.root_of book.now (log_start tour.now log.now)) (B.nexts_of book.now)) (B.state_of book.now) cert.now) }
-    ensures proves { IfOk result (Proves tour.now log.now (acts_of_runs cert.now.schedule)) }
+    ensures verdict { IfOk result (IsVerdict tour.now log.now (B.machine book.now) cert.now) }
+    ensures proves { IfOk result (Proves tour.now log.now cert.now) }
 {
     let first = tour.start - unit_of(tour.params) * log.len();
     match replay(alloc, book, log, first)? {
@@ -53,7 +50,7 @@ fn check_read(alloc: Global, tour: &Tour, log: &Timeline, cert: &Cert) -> Result
     requires lawful { IsLawful tour.now.params (log_start tour.now log.now) log.now }
     requires cert { IsSmallCert cert.now }
     ensures verdict { IfOk result (IsVerdictFor tour.now log.now cert.now) }
-    ensures proves { IfOk result (Proves tour.now log.now (acts_of_runs cert.now.schedule)) }
+    ensures proves { IfOk result (Proves tour.now log.now cert.now) }
 {
     match tour.params {
         Params::UsProperty {
@@ -77,11 +74,11 @@ fn check_read(alloc: Global, tour: &Tour, log: &Timeline, cert: &Cert) -> Result
     }
 }
 
-/// Checks the bytes of a certificate of the tour behind the lawful log.
+/// Checks the bytes of a certificate of the tour after the lawful log.
 ///
 /// They are accepted exactly where they are the text of a certificate that is valid for the tour.
-/// Then its schedule, where it has one, is a shortest one, and where it has none, there is no
-/// solution. Bytes that are no certificate's text are rejected as `Grammar` at the line in which
+/// Then its own schedule, where it has one, is lawful with its marks and a shortest one, and where it
+/// has none, there is no solution. Bytes that are no certificate's text are rejected as `Grammar` at the line in which
 /// reading stops; else the first line at which a condition fails is named, and the first that fails
 /// there. How long the bytes may be is not this call's matter: it never answers `TooBig`.
 ///
@@ -96,7 +93,7 @@ pub fn check_cert(
     requires short { unit_minutes tour.now.params * length log.now ≤ LONGEST_LOG }
     requires lawful { IsLawful tour.now.params (log_start tour.now log.now) log.now }
     ensures verdict { IfOk result (IsCheck tour.now log.now bytes.now) }
-    ensures proves { IfOk result (Follows tour.now log.now) }
+    ensures proves { IfOk result (Follows tour.now log.now bytes.now) }
 {
     match read_cert(alloc, bytes, tour) {
         Ok(cert) => check_read(alloc, tour, log, &cert),

@@ -26,7 +26,7 @@ pub enum Reason {
     Finished,
     /// An earlier label of the layer is better.
     Repeated,
-    /// A successor of the label is neither let off nor answered by a better label.
+    /// A successor of the label is neither pruned nor answered by a better label.
     Successor,
 }
 

@@ -1,6 +1,5 @@
 -- What a path asks of the layers that it is taken from.
-use Rattle.std.proofs.Common.{◌≡◌, ℕ, ◌<◌, List, length}
-use Rattle.std.specs.Prelude.{Some, slice_get}
+use Rattle.std.proofs.Common.{List, length}
 use Rattle.std.proofs.lemmas.Option.{slice_get_within}
 use Rattle.rule_core.specs.declared.roots.Root.{Root}
 use Rattle.tour_model.specs.Layer.{layer_at}

@@ -1,8 +1,9 @@
--- What planning a tour behind a log gives.
-use Rattle.std.specs.Prelude.{◌≡◌, ℕ, ◌≤◌, List, length, Option}
+-- What planning a tour after a log gives.
+use Rattle.std.specs.Prelude.{◌≡◌, ℕ, ◌≤◌, List, length}
 use Rattle.duty_core.specs.declared.activity.Activity.{Activity}
 use Rattle.duty_core.specs.Lawful.{IsLawful}
 use Rattle.rule_core.specs.declared.roots.Root.{Root}
+use Rattle.rule_core.specs.Machine.{Machine}
 use Rattle.rule_core.specs.Reach.{IsOneOf}
 use Rattle.rule_core.specs.Replay.{IsFirstUnlawful}
 use Rattle.tour_model.specs.declared.schedule.Schedule.{Schedule}
@@ -15,13 +16,14 @@ use Rattle.cert_text.specs.declared.limits.TheConstants.{CERT_LIMIT}
 use Rattle.cert_text.specs.Cert.{acts_of_runs, IsValidCert}
 use Rattle.cert_text.specs.Form.{IsCertForm}
 use Rattle.cert_text.specs.Problem.{Problem}
+use Rattle.cert_text.specs.Planning.{problem_of, IsLogState}
 use Rattle.cert_text.specs.Spelling.{IsCertText}
 use Rattle.label_state.specs.declared.kept.Kept.{Kept}
 use Rattle.label_state.specs.Layers.{label_count}
 use Rattle.label_search.specs.declared.by_layers.TheConstants.{MOST_BUDGET}
 use Rattle.label_search.specs.Sound.{IsSound, IsWorked, HasLabels}
 use Rattle.label_search.specs.Searched.{HasSolution}
-use Rattle.cert_checker.specs.Books.{IsStartFor, problem_for}
+use Rattle.cert_checker.specs.Books.{book_for}
 use Rattle.cert_checker.specs.Checked.{IsValidFor}
 use Rattle.tour_plan.specs.declared.planned.Planned.{Planned}
 use Rattle.tour_plan.specs.declared.planned.Planned.TheVariants.{Shortest, Infeasible, Spent, Unlawful}
@@ -44,7 +46,7 @@ pub record IsProof (valid : Cert → Type 0) (tour : Tour) (claims : CertKind) (
   pub kind : cert.kind ≡ claims
   pub short : length bytes ≤ CERT_LIMIT
 
--- Behind a lawful log the schedule is a shortest one, lawful with its marks, and the certificate is of this very schedule and of these marks.
+-- After a lawful log the schedule is a shortest one, lawful with its marks, and the certificate is of this very schedule and of these marks.
 pub record IsShortestPlan (valid : Cert → Type 0) (tour : Tour) (log : List Activity) (schedule : Schedule) (bytes : List ℕ) : Type 0 where
   pub lawful : IsLawfulLog tour log
   pub solves : IsSolutionWith tour log schedule.steps schedule.marks
@@ -54,7 +56,7 @@ pub record IsShortestPlan (valid : Cert → Type 0) (tour : Tour) (log : List Ac
   pub steps : acts_of_runs cert.schedule ≡ schedule.steps
   pub marks : cert.marks ≡ schedule.marks
 
--- Behind a lawful log there is no solution, and the certificate says so.
+-- After a lawful log there is no solution, and the certificate says so.
 pub record IsInfeasiblePlan (valid : Cert → Type 0) (tour : Tour) (log : List Activity) (bytes : List ℕ) : Type 0 where
   pub lawful : IsLawfulLog tour log
   pub infeasible : IsInfeasible tour log
@@ -75,11 +77,11 @@ pub record IsSpentBy {S : Type 0} (tour : Tour) (log : List Activity) (problem :
 
 -- Over all steps, at least as many labels as the budget are reachable by the tour's book, and can still be finished unless they are of the start.
 abbrev pub HasAsMany : Tour → List Activity → ℕ → Type 0
-HasAsMany tour log budget = HasLabels (problem_for tour.params tour) (IsStartFor tour.params tour log) budget
+HasAsMany tour log budget = HasLabels (problem_of tour (book_for tour.params)) (IsLogState tour log (book_for tour.params)) budget
 
 -- The search by the tour's book is spent with this budget.
 abbrev pub IsSpent : Tour → List Activity → ℕ → Type 0
-IsSpent tour log budget = IsSpentBy tour log (problem_for tour.params tour) (IsStartFor tour.params tour log) budget
+IsSpent tour log budget = IsSpentBy tour log (problem_of tour (book_for tour.params)) (IsLogState tour log (book_for tour.params)) budget
 
 -- ---- what planning gives
 
@@ -90,11 +92,10 @@ IsPlannedAs valid spent tour log (Infeasible cert) = IsInfeasiblePlan valid tour
 IsPlannedAs valid spent tour log Spent = IsLawfulLog tour log × spent
 IsPlannedAs valid spent tour log (Unlawful unit) = IsFirstUnlawful tour.params (log_start tour log) log unit
 
--- what planning by a book gives, which its members tell: the search problem, the states, those in which the driver may start, and how they are written
-abbrev pub IsPlannedBy : {S : Type 0} → Tour → List Activity → Problem S → (S → ℕ → Type 0) → (S → Type 0) → (List ℕ → ℕ → Option S) → ℕ → Planned → Type 0
-IsPlannedBy tour log problem is_state starts state_of budget planned =
-    IsPlannedAs (λ cert. IsValidCert tour log problem is_state starts state_of cert) (IsSpentBy tour log problem starts budget) tour log planned
+-- what planning by a book gives
+abbrev pub IsPlannedBy : {S : Type 0} → Tour → List Activity → Machine S → ℕ → Planned → Type 0
+IsPlannedBy tour log m budget planned = IsPlannedAs (λ cert. IsValidCert tour log m cert) (IsSpentBy tour log (problem_of tour m) (IsLogState tour log m) budget) tour log planned
 
--- What planning the tour behind the log with this budget of labels gives, by the rule book of the tour's parameters.
+-- What planning the tour after the log with this budget of labels gives, by the rule book of the tour's parameters.
 abbrev pub IsPlanned : Tour → List Activity → ℕ → Planned → Type 0
 IsPlanned tour log budget planned = IsPlannedAs (IsValidFor tour log) (IsSpent tour log budget) tour log planned

@@ -34,7 +34,7 @@ fn first_by<B: RuleBook>(
     log: &Timeline,
 ) -> Result<Option<u32>, NoMemory>
     requires tour { IsTour tour.now }
-    requires params { B.params_of book.now ≡ tour.now.params }
+    requires params { (B.machine book.now).params ≡ tour.now.params }
     requires short { unit_minutes tour.now.params * length log.now ≤ LONGEST_LOG }
     ensures first { IfOk result (λ found. MatchOption found (IsLawfulLog tour.now log.now) (IsFirstUnlawful tour.now.params (log_start tour.now log.now) log.now)) }
 {

@@ -3,13 +3,11 @@ ghost use Rattle.std.specs.Prelude.{◌≡◌, ◌*◌, ◌≤◌, length, IfOk}
 ghost use Rattle.std.specs.Option.{option_copied};
 ghost use Rattle.duty_core.specs.Params.{unit_minutes};
 ghost use Rattle.duty_core.specs.declared.limits.TheConstants.{LONGEST_LOG};
-ghost use Rattle.tour_model.specs.Schedule.{log_start};
 ghost use Rattle.tour_model.specs.Tour.{IsTour};
 ghost use Rattle.label_state.specs.Layers.{label_count, label_layers};
 ghost use Rattle.label_search.specs.declared.by_layers.TheConstants.{MOST_BUDGET};
 ghost use Rattle.cert_text.specs.declared.cert.Cert.{Cert};
 ghost use Rattle.cert_text.specs.Cert.{IsValidCert, acts_of_runs};
-ghost use Rattle.cert_text.specs.Planning.{problem_of, IsLogState};
 ghost use Rattle.refutation.specs.Refutes.{ProveAnswer, kind_of, steps_of, marks_of};
 ghost use Rattle.tour_plan.specs.Planned.{IsProof};
 
@@ -23,7 +21,7 @@ use timeline::Timeline;
 use tour_model::{Schedule, Tour};
 
 /// The bytes of the certificate that the layers make, which prove that this schedule is a shortest
-/// one behind the log, or that there is none.
+/// one after the log, or that there is none.
 pub fn bytes_of<B: RuleBook>(
     alloc: Global,
     book: &B,
@@ -33,14 +31,12 @@ pub fn bytes_of<B: RuleBook>(
     best: Option<&Schedule>,
 ) -> Result<Vec<u8>, NoMemory>
     requires tour { IsTour tour.now }
-    requires params { B.params_of book.now ≡ tour.now.params }
+    requires params { (B.machine book.now).params ≡ tour.now.params }
     requires short { unit_minutes tour.now.params * length log.now ≤ LONGEST_LOG }
     requires few { label_count layers.now ≤ MOST_BUDGET }
-    requires proven { ProveAnswer tour.now log.now (problem_of tour.now (B.advances_of book.now) (B.covering book.now) (B.idles_of book.now)) (B.is_state_at book.now)
-        (IsLogState tour.now log.now (B.root_of book.now (log_start tour.now log.now)) (B.nexts_of book.now)) (option_copied best) (label_layers layers.now) }
+    requires proven { ProveAnswer tour.now log.now (B.machine book.now) (option_copied best) (label_layers layers.now) }
     ensures { IfOk result (λ bytes. (cert : Cert)
-        × IsProof (λ cert. IsValidCert tour.now log.now (problem_of tour.now (B.advances_of book.now) (B.covering book.now) (B.idles_of book.now)) (B.is_state_at book.now)
-        (IsLogState tour.now log.now (B.root_of book.now (log_start tour.now log.now)) (B.nexts_of book.now)) (B.state_of book.now) cert) tour.now (kind_of (option_copied best.entry)) bytes.items cert
+        × IsProof (λ cert. IsValidCert tour.now log.now (B.machine book.now) cert) tour.now (kind_of (option_copied best.entry)) bytes.items cert
         × (acts_of_runs cert.schedule ≡ steps_of (option_copied best.entry)) × (cert.marks ≡ marks_of (option_copied best.entry))) }
 {
     let _ = log;

@@ -1,4 +1,4 @@
-//! A tour planned behind a log, by the rule book of its parameters, with the bytes of a certificate.
+//! A tour planned after a log, by the rule book of its parameters, with the bytes of a certificate.
 #![tactic(auto)]
 
 mod audit;

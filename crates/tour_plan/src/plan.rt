@@ -1,11 +1,10 @@
-//! Planning of a tour behind a log.
+//! Planning of a tour after a log.
 ghost use Rattle.std.specs.Prelude.{◌≡◌, ◌*◌, ◌≤◌, length, IfOk};
 ghost use Rattle.duty_core.specs.Params.{unit_minutes};
 ghost use Rattle.duty_core.specs.declared.limits.TheConstants.{LONGEST_LOG};
 ghost use Rattle.rule_core.specs.Replay.{AreRootsOf};
 ghost use Rattle.tour_model.specs.Schedule.{log_start};
 ghost use Rattle.tour_model.specs.Tour.{IsTour};
-ghost use Rattle.cert_text.specs.Planning.{problem_of, IsLogState};
 ghost use Rattle.tour_plan.specs.Planned.{IsBudget, IsLawfulLog, IsPlannedBy, IsPlanned};
 
 use crate::audit::log_start;
@@ -22,7 +21,7 @@ use timeline::Timeline;
 use tour_model::Tour;
 use us_rules::UsBook;
 
-/// Plans the tour by a rule book, behind a lawful log that left these roots.
+/// Plans the tour by a rule book, after a lawful log that left these roots.
 fn plan_from<B: RuleBook>(
     alloc: Global,
     book: &B,
@@ -32,14 +31,12 @@ fn plan_from<B: RuleBook>(
     budget: u32,
 ) -> Result<Planned, NoMemory>
     requires tour { IsTour tour.now }
-    requires params { B.params_of book.now ≡ tour.now.params }
+    requires params { (B.machine book.now).params ≡ tour.now.params }
     requires short { unit_minutes tour.now.params * length log.now ≤ LONGEST_LOG }
     requires lawful { IsLawfulLog tour.now log.now }
-    requires roots { AreRootsOf (unit_minutes tour.now.params) (B.nexts_of book.now) (B.covering book.now)
-        (B.root_of book.now (log_start tour.now log.now)) (log_start tour.now log.now) log.now roots.now }
+    requires roots { AreRootsOf (unit_minutes tour.now.params) (B.machine book.now) (log_start tour.now log.now) log.now roots.now }
     requires budget { IsBudget budget }
-    ensures planned { IfOk result (IsPlannedBy tour.now log.now (problem_of tour.now (B.advances_of book.now) (B.covering book.now) (B.idles_of book.now)) (B.is_state_at book.now)
-        (IsLogState tour.now log.now (B.root_of book.now (log_start tour.now log.now)) (B.nexts_of book.now)) (B.state_of book.now) budget) }
+    ensures planned { IfOk result (IsPlannedBy tour.now log.now (B.machine book.now) budget) }
 {
     match search(alloc, book, tour, roots.items(), budget)? {
         Searched::Found { layers, place } => {
@@ -54,7 +51,7 @@ fn plan_from<B: RuleBook>(
     }
 }
 
-/// Plans the tour by a rule book, behind the log.
+/// Plans the tour by a rule book, after the log.
 fn plan_by<B: RuleBook>(
     alloc: Global,
     book: &B,
@@ -63,11 +60,10 @@ fn plan_by<B: RuleBook>(
     budget: u32,
 ) -> Result<Planned, NoMemory>
     requires tour { IsTour tour.now }
-    requires params { B.params_of book.now ≡ tour.now.params }
+    requires params { (B.machine book.now).params ≡ tour.now.params }
     requires short { unit_minutes tour.now.params * length log.now ≤ LONGEST_LOG }
     requires budget { IsBudget budget }
-    ensures planned { IfOk result (IsPlannedBy tour.now log.now (problem_of tour.now (B.advances_of book.now) (B.covering book.now) (B.idles_of book.now)) (B.is_state_at book.now)
-        (IsLogState tour.now log.now (B.root_of book.now (log_start tour.now log.now)) (B.nexts_of book.now)) (B.state_of book.now) budget) }
+    ensures planned { IfOk result (IsPlannedBy tour.now log.now (B.machine book.now) budget) }
 {
     match replay(alloc, book, log, log_start(tour, log))? {
         Replayed::Lawful(roots) => plan_from(alloc, book, tour, log, &roots, budget),
@@ -75,7 +71,7 @@ fn plan_by<B: RuleBook>(
     }
 }
 
-/// Plans the tour behind the log, by the rule book of the tour's parameters.
+/// Plans the tour after the log, by the rule book of the tour's parameters.
 ///
 /// The log ends where the tour starts. `Unlawful` comes exactly where it is not lawful. Else, unless
 /// the search keeps `budget` labels, `Shortest` comes exactly where there is a solution and

@@ -2,12 +2,12 @@
 
 use tour_model::Schedule;
 
-/// What planning a tour behind a log gives.
+/// What planning a tour after a log gives.
 #[derive(Drop)]
 pub enum Planned {
     /// A shortest schedule with its marks, and the bytes of a certificate that proves it.
     Shortest { schedule: Schedule, cert: Vec<u8> },
-    /// No schedule serves the tour lawfully behind the log. The bytes are those of a certificate
+    /// No schedule serves the tour lawfully after the log. The bytes are those of a certificate
     /// that proves it.
     Infeasible { cert: Vec<u8> },
     /// The log is lawful, and the search kept as many labels as it may.

@@ -58,7 +58,7 @@ fn tour_of(
     })
 }
 
-/// Whether the certificate of the tour behind an empty log begins with these lines.
+/// Whether the certificate of the tour after an empty log begins with these lines.
 fn claim_of(alloc: Global, tour: &Tour, lines: &[u8]) -> Result<bool, NoMemory>
     requires { IsTour tour.now }
 {

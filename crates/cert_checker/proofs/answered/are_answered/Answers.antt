@@ -1,9 +1,9 @@
 use Rattle.std.proofs.Common.{◌≡◌, ◌+◌, ◌∷◌, [], true, false, sym, ◌∙◌, ap, inl, inr, refl, Decides}
-use Rattle.std.specs.Prelude.{Result, Ok, Err, IfOk, None, Some}
+use Rattle.std.specs.Prelude.{Result, Ok, Err, IfOk}
 use Rattle.std.specs.Option.{option_to_list}
 use Rattle.duty_core.specs.declared.activity.Activity.{Activity}
 use Rattle.duty_core.specs.declared.activity.Activity.TheVariants.{Drive, Serve}
-use Rattle.rule_core.specs.Reach.{IsOneOf, idle_list}
+use Rattle.rule_core.specs.Reach.{idle_list}
 use Rattle.cert_text.specs.Problem.{grown_by, successors_of}
 use Rattle.cert_text.specs.Planning.{problem_of}
 use Rattle.cert_checker.specs.Parsed.{there}
@@ -17,7 +17,7 @@ ok_also (Err e) P Q f h = tt
 
 pub returns-then-not-branch : goal.returns-then-not-branch
 returns-then-not-branch g c =
-    let problem = problem_of c.args.tour.now (g.B.RuleBook.advances_of c.args.book.now) (g.B.RuleBook.covering c.args.book.now) (g.B.RuleBook.idles_of c.args.book.now) in
+    let problem = problem_of c.args.tour.now (g.B.RuleBook.machine c.args.book.now) in
     let xs = idle_list c.idles-first.result in
     let tries : problem.tries c.args.label.now.state ≡ xs = ap idle_list (sym c.idles-first.ensures) in (
       (λ t. absurd (let f : false ≡ true = t in cc)),
@@ -26,7 +26,7 @@ returns-then-not-branch g c =
 
 pub returns-then-not-branch-2 : goal.returns-then-not-branch-2
 returns-then-not-branch-2 g c =
-    let problem = problem_of c.args.tour.now (g.B.RuleBook.advances_of c.args.book.now) (g.B.RuleBook.covering c.args.book.now) (g.B.RuleBook.idles_of c.args.book.now) in
+    let problem = problem_of c.args.tour.now (g.B.RuleBook.machine c.args.book.now) in
     let xs = idle_list c.idles-first.result in
     let tries : problem.tries c.args.label.now.state ≡ xs = ap idle_list (sym c.idles-first.ensures) in (
       (λ t. absurd (let f : false ≡ true = t in cc)),
@@ -35,7 +35,7 @@ returns-then-not-branch-2 g c =
 
 pub returns-then-not-branch-3 : goal.returns-then-not-branch-3
 returns-then-not-branch-3 g c =
-    let problem = problem_of c.args.tour.now (g.B.RuleBook.advances_of c.args.book.now) (g.B.RuleBook.covering c.args.book.now) (g.B.RuleBook.idles_of c.args.book.now) in
+    let problem = problem_of c.args.tour.now (g.B.RuleBook.machine c.args.book.now) in
     let xs = idle_list c.idles-first.result in
     let tries : problem.tries c.args.label.now.state ≡ xs = ap idle_list (sym c.idles-first.ensures) in (
       (λ t. absurd (let f : false ≡ true = t in cc)),
@@ -44,7 +44,7 @@ returns-then-not-branch-3 g c =
 
 pub returns-in-None : goal.returns-in-None
 returns-in-None g c =
-    let problem = problem_of c.args.tour.now (g.B.RuleBook.advances_of c.args.book.now) (g.B.RuleBook.covering c.args.book.now) (g.B.RuleBook.idles_of c.args.book.now) in
+    let problem = problem_of c.args.tour.now (g.B.RuleBook.machine c.args.book.now) in
     let xs = idle_list c.idles-first.result in
     let tries : problem.tries c.args.label.now.state ≡ xs = ap idle_list (sym c.idles-first.ensures) in
     let drive = c.in_ok-are_answered_by.ensures.0 c.if-not-branch.false in
@@ -57,7 +57,7 @@ returns-in-None g c =
 
 pub returns-in-Some : goal.returns-in-Some
 returns-in-Some g c =
-    let problem = problem_of c.args.tour.now (g.B.RuleBook.advances_of c.args.book.now) (g.B.RuleBook.covering c.args.book.now) (g.B.RuleBook.idles_of c.args.book.now) in
+    let problem = problem_of c.args.tour.now (g.B.RuleBook.machine c.args.book.now) in
     let xs = idle_list c.idles-first.result in
     let tries : problem.tries c.args.label.now.state ≡ xs = ap idle_list (sym c.idles-first.ensures) in
     let drive = c.in_ok-are_answered_by.ensures.0 c.if-not-branch.false in

@@ -8,6 +8,6 @@ use Rattle.cert_checker.proofs.answered.is_next_covered.Goals as goal
 
 pub returns-in-Some : goal.returns-in-Some
 returns-in-Some g c =
-    let problem = problem_of c.args.tour.now (g.B.RuleBook.advances_of c.args.book.now) (g.B.RuleBook.covering c.args.book.now) (g.B.RuleBook.idles_of c.args.book.now) in
+    let problem = problem_of c.args.tour.now (g.B.RuleBook.machine c.args.book.now) in
     subst (λ o. Decides c.is_covered.result (AreCovered problem c.args.step (there c.args.labels.now) c.args.depart c.args.progress (option_to_list o))) (sym c.in-Some.is)
     (one_covered problem c.args.step (there c.args.labels.now) c.args.depart c.args.progress c.in-Some.next c.is_covered.result c.is_covered.ensures)

@@ -1,8 +1,8 @@
-use Rattle.std.proofs.Common.{◌≡◌, ◌*◌, ◌<◌, ◌≤◌, length, sym, ap, subst, arith}
+use Rattle.std.proofs.Common.{◌≡◌, ◌*◌, ◌<◌, ◌≤◌, length, ap, subst, arith}
 use Rattle.std.specs.Prelude.{MatchOption}
 use Rattle.std.proofs.Math.Nat.{le-mul_of_pos_right}
 use Rattle.tour_model.specs.declared.limits.TheConstants.{LONGEST_TOUR}
-use Rattle.tour_model.specs.LengthLaws.{tour_grid_some, serves_short}
+use Rattle.tour_model.specs.Laws.LengthLaws.{tour_grid_some, serves_short}
 use Rattle.cert_text.specs.Cert.{acts_of_runs}
 use Rattle.cert_checker.proofs.claim.fault_of_claim.Goals as goal
 

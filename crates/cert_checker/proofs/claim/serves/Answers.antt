@@ -1,9 +1,8 @@
-use Rattle.std.proofs.Common.{◌≡◌, ◌==◌, ℕ, ◌+◌, ◌<◌, Bool, true, false, refl, sym, ◌∙◌, subst, arith}
+use Rattle.std.proofs.Common.{◌≡◌, ◌==◌, ℕ, ◌+◌, true, false, sym, ◌∙◌, subst, arith}
 use Rattle.std.proofs.lemmas.Bool.Decides.{nat_tests}
 use Rattle.std.proofs.lemmas.List.{get_or_default}
 use Rattle.duty_core.specs.declared.activity.Activity.TheVariants.{Drive}
-use Rattle.tour_model.specs.declared.limits.TheConstants.{STEP_LIMIT}
-use Rattle.cert_text.specs.ProblemOf.{word_few}
+use Rattle.cert_text.specs.Laws.ProblemOf.{word_few}
 use Rattle.cert_checker.proofs.ClaimLaws.{IsServing, serving_first, serving_more, unusable, unmay, serving_ends, ends_serving}
 use Rattle.cert_checker.proofs.claim.serves.Goals as goal
 

@@ -1,4 +1,4 @@
-use Rattle.std.proofs.Common.{◌≡◌, ◌+◌, ◌<◌, ◌≤◌, get_or, length, arith}
+use Rattle.std.proofs.Common.{◌+◌, ◌≤◌, get_or, length, arith}
 use Rattle.std.proofs.lemmas.List.{get_or_default}
 use Rattle.duty_core.specs.declared.activity.Activity.TheVariants.{Drive}
 use Rattle.cert_text.specs.declared.cert.StepRun.{StepRun}

@@ -6,5 +6,5 @@ use Rattle.cert_checker.proofs.covered.is_any_better.Given as goal
 
 abbrev pub invariant-loop-place : goal.invariant-loop-place
 invariant-loop-place g l =
-    NoneCovers (problem_of l.tour (g.B.RuleBook.advances_of l.book) (g.B.RuleBook.covering l.book) (g.B.RuleBook.idles_of l.book)) l.step (labels_at l.labels (take l.place-index l.places))
+    NoneCovers (problem_of l.tour (g.B.RuleBook.machine l.book)) l.step (labels_at l.labels (take l.place-index l.places))
     (record { depart = l.depart; progress = l.progress; state = l.state })

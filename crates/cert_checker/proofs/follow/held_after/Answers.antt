@@ -1,9 +1,9 @@
-use Rattle.std.proofs.Common.{◌≡◌, ◌<◌, length, get_or, sym, subst, ◌∙◌, arith}
+use Rattle.std.proofs.Common.{length, sym, subst, ◌∙◌, arith}
 use Rattle.std.proofs.lemmas.List.{map-id}
 use Rattle.std.proofs.lemmas.Iterator.Adapters.{YieldsList-from_vec}
 use Rattle.std.proofs.lemmas.Iterator.Consumers.{YieldsList-turn, YieldsList-end}
 use Rattle.rule_core.specs.Reach.{listed, IsOneOf}
-use Rattle.rule_core.specs.OneOf.{one_of_item}
+use Rattle.rule_core.specs.Laws.OneOf.{one_of_item}
 use Rattle.cert_checker.specs.Followed.{AreAfter}
 use Rattle.cert_checker.proofs.FollowLaws.{after_more}
 use Rattle.cert_checker.proofs.follow.held_after.Goals as goal
@@ -27,7 +27,7 @@ pub loop-one-preserved : goal.loop-one-preserved
 loop-one-preserved g c = record {
   can = tt;
   finite = tt;
-  after = after_more (g.B.RuleBook.nexts_of c.args.book.now) c.args.at c.args.act c.args.marks.now c.loop-one.yielded c.in-Some.one (listed c.in_ok-nexts.nexts) c.loop-one.after.items c.push_nexts.new.held.items
+  after = after_more (g.B.RuleBook.machine c.args.book.now).nexts c.args.at c.args.act c.args.marks.now c.loop-one.yielded c.in-Some.one (listed c.in_ok-nexts.nexts) c.loop-one.after.items c.push_nexts.new.held.items
       c.loop-one.invariant.after c.in_ok-nexts.ensures.nexts c.in_ok-push_nexts.ensures.ok;
 }
 
@@ -36,4 +36,4 @@ returns g c =
     let xs = c.args.held.items in
     let i = c.into_iter-one-iterator.ensures.into_iter_gives in
     let t = YieldsList-end (YieldsList-from_vec {s = c.into_iter-one-iterator.result} xs i.0 (omega arith)) c.loop-one.yielded c.loop-one.one-iterator c.loop-one.yielded_by c.next.result c.next.new.self c.in-None.is c.next.ensures.steps in
-    subst (λ ys. AreAfter (g.B.RuleBook.nexts_of c.args.book.now) c.args.at c.args.act c.args.marks.now ys c.loop-one.after.items) (sym (map-id c.loop-one.yielded) ∙ t.0) c.loop-one.invariant.after
+    subst (λ ys. AreAfter (g.B.RuleBook.machine c.args.book.now).nexts c.args.at c.args.act c.args.marks.now ys c.loop-one.after.items) (sym (map-id c.loop-one.yielded) ∙ t.0) c.loop-one.invariant.after

@@ -1,9 +1,8 @@
 use Rattle.std.proofs.Common.{◌≡◌, ◌+◌, get_or, sym, subst, rules, refl}
-use Rattle.std.specs.Prelude.{None}
 use Rattle.std.specs.Option.{option_to_list}
 use Rattle.cert_checker.specs.declared.follow.Held.{Held}
 use Rattle.cert_checker.specs.Followed.{AddsNexts}
-use Rattle.cert_checker.proofs.FollowLaws.{adds_unmarked, adds_marked, adds_other}
+use Rattle.cert_checker.proofs.FollowLaws.{adds_unmarked, adds_marked}
 use Rattle.cert_checker.proofs.follow.push_next.Goals as goal
 
 pub returns-in_default-mark : goal.returns-in_default-mark

@@ -1,7 +1,6 @@
 use Rattle.std.proofs.Common.{◌++◌}
 use Rattle.std.specs.Prelude.{Result, Ok, Err, OnOk}
 use Rattle.std.specs.Option.{option_to_list}
-use Rattle.cert_checker.specs.Followed.{AddsNexts}
 use Rattle.cert_checker.proofs.FollowLaws.{adds_append}
 use Rattle.cert_checker.proofs.follow.push_nexts.Goals as goal
 

@@ -1,4 +1,4 @@
-use Rattle.std.proofs.Common.{◌≡◌, ◌+◌, ◌<◌, arith, Decides}
+use Rattle.std.proofs.Common.{◌+◌, ◌<◌, arith, Decides}
 use Rattle.std.specs.Prelude.{Result, Ok, Err, IfOk}
 use Rattle.tour_model.specs.Word.{word_length}
 use Rattle.cert_text.specs.Problem.{successors_of}
@@ -13,7 +13,7 @@ ok_also (Err e) P Q f h = tt
 
 pub returns : goal.returns
 returns g c =
-    let problem = problem_of c.args.tour.now (g.B.RuleBook.advances_of c.args.book.now) (g.B.RuleBook.covering c.args.book.now) (g.B.RuleBook.idles_of c.args.book.now) in
+    let problem = problem_of c.args.tour.now (g.B.RuleBook.machine c.args.book.now) in
     let e = c.requires.goal in
     let less : c.args.label.now.progress < word_length c.args.tour.now = omega arith in
     ok_also c.are_answered.result (λ b. Decides b (AreAnswered problem c.args.target (c.args.step + 1) (there c.args.next.now) (successors_of problem c.args.step c.args.label.now)))

@@ -7,7 +7,7 @@ use Rattle.cert_checker.proofs.layer.fault_at.Goals as goal
 
 pub returns-in-Some : goal.returns-in-Some
 returns-in-Some g c =
-    let problem = problem_of c.args.tour.now (g.B.RuleBook.advances_of c.args.book.now) (g.B.RuleBook.covering c.args.book.now) (g.B.RuleBook.idles_of c.args.book.now) in
-    let is_state = state_at c.args.tour.now (g.B.RuleBook.is_state_at c.args.book.now) in
+    let problem = problem_of c.args.tour.now (g.B.RuleBook.machine c.args.book.now) in
+    let is_state = state_at c.args.tour.now (g.B.RuleBook.machine c.args.book.now) in
     subst (λ l. IfOk c.fault_of.result (λ o. MatchOption o (Passes problem is_state c.args.target c.args.step (there (take c.args.place c.args.labels.now)) (there c.args.next.now) l) (FailsBy problem is_state c.args.target c.args.step (there (take c.args.place c.args.labels.now)) (there c.args.next.now) l)))
     (sym c.in-Some.is) c.fault_of.ensures

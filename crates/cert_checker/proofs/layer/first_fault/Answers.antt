@@ -1,4 +1,4 @@
-use Rattle.std.proofs.Common.{◌≡◌, ◌<◌, length, take, get_or, sym, ◌∙◌, ap, subst}
+use Rattle.std.proofs.Common.{◌≡◌, ◌<◌, length, take, get_or, subst}
 use Rattle.std.specs.Prelude.{None, MatchOption}
 use Rattle.std.proofs.lemmas.List.{get_or_read}
 use Rattle.cert_text.specs.Planning.{problem_of, state_at}
@@ -20,8 +20,8 @@ fault_at-requires-clause-progress g c l e =
 
 pub loop-index-preserved : goal.loop-index-preserved
 loop-index-preserved g c =
-    let problem = problem_of c.args.tour.now (g.B.RuleBook.advances_of c.args.book.now) (g.B.RuleBook.covering c.args.book.now) (g.B.RuleBook.idles_of c.args.book.now) in
-    let is_state = state_at c.args.tour.now (g.B.RuleBook.is_state_at c.args.book.now) in
+    let problem = problem_of c.args.tour.now (g.B.RuleBook.machine c.args.book.now) in
+    let is_state = state_at c.args.tour.now (g.B.RuleBook.machine c.args.book.now) in
     let os = c.args.labels.now in
     let i = c.loop-index.index in
     let earlier = there (take i os) in

@@ -7,5 +7,5 @@ use Rattle.cert_checker.proofs.layer.first_fault.Given as goal
 abbrev pub invariant-loop-index : goal.invariant-loop-index
 invariant-loop-index g l = record {
   all : l.label-items ≡ l.labels;
-  pass : PassUpTo (problem_of l.tour (g.B.RuleBook.advances_of l.book) (g.B.RuleBook.covering l.book) (g.B.RuleBook.idles_of l.book)) (state_at l.tour (g.B.RuleBook.is_state_at l.book)) l.target l.step l.labels (there l.next) l.index;
+  pass : PassUpTo (problem_of l.tour (g.B.RuleBook.machine l.book)) (state_at l.tour (g.B.RuleBook.machine l.book)) l.target l.step l.labels (there l.next) l.index;
 }

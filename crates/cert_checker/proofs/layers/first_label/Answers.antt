@@ -13,7 +13,7 @@ pub loop-step-init : goal.loop-step-init
 loop-step-init g c = record {
   line = omega arith;
   small = omega arith;
-  read = read_is (g.B.RuleBook.state_of c.args.book.now) c.args.tour.now c.word_len-goal.result 0 c.items-layers.result.now c.args.layers.now c.in_ok-labels.labels c.in_ok-labels.ensures.labels c.word_len-goal.ensures c.items-layers.ensures;
+  read = read_is (g.B.RuleBook.machine c.args.book.now).state_of c.args.tour.now c.word_len-goal.result 0 c.items-layers.result.now c.args.layers.now c.in_ok-labels.labels c.in_ok-labels.ensures.labels c.word_len-goal.ensures c.items-layers.ensures;
   states = c.in_ok-labels.ensures.states;
   within = subst (λ n. AreWithin n c.in_ok-labels.labels) c.word_len-goal.ensures c.in_ok-labels.ensures.within;
   pass = λ step lt. absurd (omega arith);
@@ -24,9 +24,9 @@ first_fault-requires-clause-within g c = subst (λ n. AreWithin n c.loop-step.la
 
 pub loop-step-preserved : goal.loop-step-preserved
 loop-step-preserved g c =
-    let problem = problem_of c.args.tour.now (g.B.RuleBook.advances_of c.args.book.now) (g.B.RuleBook.covering c.args.book.now) (g.B.RuleBook.idles_of c.args.book.now) in
-    let is_state = state_at c.args.tour.now (g.B.RuleBook.is_state_at c.args.book.now) in
-    let state_of = g.B.RuleBook.state_of c.args.book.now in
+    let problem = problem_of c.args.tour.now (g.B.RuleBook.machine c.args.book.now) in
+    let is_state = state_at c.args.tour.now (g.B.RuleBook.machine c.args.book.now) in
+    let state_of = (g.B.RuleBook.machine c.args.book.now).state_of in
     let tour = c.args.tour.now in
     let layers = c.args.layers.now in
     let step = c.loop-step.step in
@@ -53,7 +53,7 @@ loop-step-preserved g c =
 
 pub returns : goal.returns
 returns g c =
-    let problem = problem_of c.args.tour.now (g.B.RuleBook.advances_of c.args.book.now) (g.B.RuleBook.covering c.args.book.now) (g.B.RuleBook.idles_of c.args.book.now) in
-    let is_state = state_at c.args.tour.now (g.B.RuleBook.is_state_at c.args.book.now) in
+    let problem = problem_of c.args.tour.now (g.B.RuleBook.machine c.args.book.now) in
+    let is_state = state_at c.args.tour.now (g.B.RuleBook.machine c.args.book.now) in
     let all : length c.items-layers.result.now ≡ length c.args.layers.now = ap length c.items-layers.ensures in
-    layers_whole problem is_state (g.B.RuleBook.state_of c.args.book.now) c.args.tour.now c.args.target c.args.layers.now c.loop-step.step (length c.args.layers.now) (omega arith) c.loop-step.invariant.pass
+    layers_whole problem is_state (g.B.RuleBook.machine c.args.book.now).state_of c.args.tour.now c.args.target c.args.layers.now c.loop-step.step (length c.args.layers.now) (omega arith) c.loop-step.invariant.pass

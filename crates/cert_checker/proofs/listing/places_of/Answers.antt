@@ -1,6 +1,6 @@
-use Rattle.std.proofs.Common.{◌≡◌, ◌+◌, ◌<◌, length, sym, ◌∙◌, subst, arith}
+use Rattle.std.proofs.Common.{◌∙◌, arith}
 use Rattle.std.proofs.lemmas.List.{length-map}
-use Rattle.cert_checker.specs.Places.{plain, with_place, ArePlaced}
+use Rattle.cert_checker.specs.Places.{plain}
 use Rattle.cert_checker.proofs.PlaceLaws.{placed_first, placed_none, placed_some, placed_all}
 use Rattle.cert_checker.proofs.listing.places_of.Goals as goal
 

@@ -1,4 +1,4 @@
-use Rattle.std.proofs.Common.{◌≡◌, length, arith}
+use Rattle.std.proofs.Common.{arith}
 use Rattle.cert_checker.proofs.PlaceLaws.{placed_in}
 use Rattle.cert_checker.proofs.listing.put_place.Goals as goal
 

@@ -12,17 +12,17 @@ ok_also (Err e) P Q f h = tt
 pub returns-in_ok-read_labels-in-Some-clause-states : goal.returns-in_ok-read_labels-in-Some-clause-states
 returns-in_ok-read_labels-in-Some-clause-states g c =
     let book = c.args.book.now in
-    let state_of = g.B.RuleBook.state_of book in
+    let state_of = (g.B.RuleBook.machine book).state_of in
     let at = minute_of c.args.tour.now c.args.step in
     let items = c.in_ok-read_labels-in-Some.field-0.items in
     let read : items ≡ labels_of state_of c.args.goal at c.items.result.now = c.in_ok-read_labels-in-Some.ensures ∙ ap (λ m. labels_of state_of c.args.goal m c.items.result.now) c.minute_at-at.ensures in
-    ok_also c.new-in-Some.result (λ v. v ≡ items) (λ v. AreStatesIn (λ s. g.B.RuleBook.is_state_at book s at) v)
-    (λ v e. subst (λ os. AreStatesIn (λ s. g.B.RuleBook.is_state_at book s at) os) (sym (e ∙ read))
-    (states_read (g.B.RuleBook.is_state_at book) state_of (g.B.RuleBook.numbers_of book) (g.met.B.RuleBook.numbers_told book) c.args.goal at c.items.result.now)) c.new-in-Some.ensures
+    ok_also c.new-in-Some.result (λ v. v ≡ items) (λ v. AreStatesIn (λ s. (g.B.RuleBook.machine book).is_state s at) v)
+    (λ v e. subst (λ os. AreStatesIn (λ s. (g.B.RuleBook.machine book).is_state s at) os) (sym (e ∙ read))
+    (states_read (g.B.RuleBook.machine book).is_state state_of (g.B.RuleBook.machine book).numbers (g.met.B.RuleBook.laws book).text.numbers_told c.args.goal at c.items.result.now)) c.new-in-Some.ensures
 
 pub returns-in_ok-read_labels-in-Some-clause-within : goal.returns-in_ok-read_labels-in-Some-clause-within
 returns-in_ok-read_labels-in-Some-clause-within g c =
-    let state_of = g.B.RuleBook.state_of c.args.book.now in
+    let state_of = (g.B.RuleBook.machine c.args.book.now).state_of in
     let items = c.in_ok-read_labels-in-Some.field-0.items in
     let read : items ≡ labels_of state_of c.args.goal c.minute_at-at.result c.items.result.now = c.in_ok-read_labels-in-Some.ensures in
     ok_also c.new-in-Some.result (λ v. v ≡ items) (λ v. AreWithin c.args.goal v)

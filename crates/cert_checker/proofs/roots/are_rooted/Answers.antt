@@ -2,7 +2,7 @@ use Rattle.std.proofs.Common.{◌≡◌, true, false, refl, sym, ◌∙◌, subs
 use Rattle.std.proofs.lemmas.List.{take_all}
 use Rattle.rule_core.specs.declared.roots.Root.{Root}
 use Rattle.rule_core.specs.Reach.{IsOneOf}
-use Rattle.rule_core.specs.OneOf.{one_of_item}
+use Rattle.rule_core.specs.Laws.OneOf.{one_of_item}
 use Rattle.cert_text.specs.Problem.{root_label}
 use Rattle.cert_text.specs.Planning.{problem_of}
 use Rattle.cert_text.specs.Cover.{IsCovered}
@@ -21,7 +21,7 @@ returns-then-not-is_covered g c = (
 
 pub loop-root-preserved : goal.loop-root-preserved
 loop-root-preserved g c =
-    let problem = problem_of c.args.tour.now (g.B.RuleBook.advances_of c.args.book.now) (g.B.RuleBook.covering c.args.book.now) (g.B.RuleBook.idles_of c.args.book.now) in
+    let problem = problem_of c.args.tour.now (g.B.RuleBook.machine c.args.book.now) in
     each_more (λ (r : Root g.row.B-State.Denot). IsCovered problem 0 (there c.args.labels.now) (root_label r.state)) c.args.roots.now c.loop-root.root-index c.root-item.result c.loop-root-test.true c.root-item.is c.loop-root.invariant
     (c.is_covered.ensures.0 c.if-not-is_covered.false)
 

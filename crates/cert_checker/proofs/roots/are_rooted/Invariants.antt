@@ -6,4 +6,4 @@ use Rattle.cert_checker.proofs.roots.are_rooted.Given as goal
 
 abbrev pub invariant-loop-root : goal.invariant-loop-root
 invariant-loop-root g l =
-    AreRooted (problem_of l.tour (g.B.RuleBook.advances_of l.book) (g.B.RuleBook.covering l.book) (g.B.RuleBook.idles_of l.book)) (there l.labels) (take l.root-index l.roots)
+    AreRooted (problem_of l.tour (g.B.RuleBook.machine l.book)) (there l.labels) (take l.root-index l.roots)

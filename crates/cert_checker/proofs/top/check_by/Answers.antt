@@ -3,7 +3,7 @@ use Rattle.duty_core.specs.History.{IsTimed}
 use Rattle.duty_core.specs.Params.{unit_minutes}
 use Rattle.rule_core.specs.Replay.{IfUnlawful, IsFirstUnlawful}
 use Rattle.tour_model.specs.Schedule.{log_start}
-use Rattle.tour_model.specs.LengthLaws.{log_timed}
+use Rattle.tour_model.specs.Laws.LengthLaws.{log_timed}
 use Rattle.cert_checker.proofs.CheckedLaws.{lawful_replayed}
 use Rattle.cert_checker.proofs.top.check_by.Goals as goal
 
@@ -11,7 +11,7 @@ pub replay-requires : goal.replay-requires
 replay-requires g c =
     let tour = c.args.tour.now in
     let log = c.args.log.now in
-    let params = g.B.RuleBook.params_of c.args.book.now in
+    let params = (g.B.RuleBook.machine c.args.book.now).params in
     let start : c.unit_of.result * c.len.result ≡ unit_minutes tour.params * length log = ap (λ u. u * c.len.result) c.unit_of.ensures ∙ ap (λ n. unit_minutes tour.params * n) c.len.ensures.value in
     record {
       timed = subst (λ n. IsTimed params (tour.start - n) log) (sym start)
@@ -22,7 +22,7 @@ pub unreachable-requires : goal.unreachable-requires
 unreachable-requires g c =
     let tour = c.args.tour.now in
     let log = c.args.log.now in
-    let params = g.B.RuleBook.params_of c.args.book.now in
+    let params = (g.B.RuleBook.machine c.args.book.now).params in
     let unit = c.in-Unlawful.unit in
     let start : c.unit_of.result * c.len.result ≡ unit_minutes tour.params * length log = ap (λ u. u * c.len.result) c.unit_of.ensures ∙ ap (λ n. unit_minutes tour.params * n) c.len.ensures.value in
     let found = subst (λ o. IfUnlawful o (IsFirstUnlawful params (tour.start - c.unit_of.result * c.len.result) log)) c.in-Unlawful.is c.in_ok-roots.ensures.unlawful in

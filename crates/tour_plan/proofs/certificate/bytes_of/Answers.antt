@@ -2,8 +2,6 @@ use Rattle.std.specs.Option.{option_copied}
 use Rattle.std.proofs.Common.{arith}
 use Rattle.label_state.specs.Layers.{label_layers}
 use Rattle.cert_text.specs.Form.{IsCertForm}
-use Rattle.cert_text.specs.Planning.{problem_of, IsLogState}
-use Rattle.tour_model.specs.Schedule.{log_start}
 use Rattle.tour_plan.proofs.Proven.{proven_few, proven_solves}
 use Rattle.tour_plan.proofs.certificate.bytes_of.Given.{Over}
 use Rattle.tour_plan.proofs.certificate.bytes_of.Goals as goal
@@ -14,8 +12,7 @@ refute-requires-clause-few g c =
     let tour = c.args.tour.now in
     let log = c.args.log.now in
     let book = c.args.book.now in
-    proven_few tour c.requires.tour log (problem_of tour (g.B.RuleBook.advances_of book) (g.B.RuleBook.covering book) (g.B.RuleBook.idles_of book)) (g.B.RuleBook.is_state_at book)
-    (IsLogState tour log (g.B.RuleBook.root_of book (log_start tour log)) (g.B.RuleBook.nexts_of book)) (option_copied c.args.best) (label_layers c.args.layers.now) c.requires.proven
+    proven_few tour c.requires.tour log (g.B.RuleBook.machine book) (option_copied c.args.best) (label_layers c.args.layers.now) c.requires.proven
 
 -- the certificate has a text
 form_of : (g : Over) (c : In_ok-cert g) → IsCertForm c.args.tour.now.params c.in_ok-cert.cert
@@ -25,8 +22,7 @@ form_of g c =
     let book = c.args.book.now in
     let few = c.requires.few in
     c.in_ok-cert.ensures.form
-    (proven_solves tour log (problem_of tour (g.B.RuleBook.advances_of book) (g.B.RuleBook.covering book) (g.B.RuleBook.idles_of book)) (g.B.RuleBook.is_state_at book)
-    (IsLogState tour log (g.B.RuleBook.root_of book (log_start tour log)) (g.B.RuleBook.nexts_of book)) (option_copied c.args.best) (label_layers c.args.layers.now) c.requires.short c.requires.proven)
+    (proven_solves tour log (g.B.RuleBook.machine book) (option_copied c.args.best) (label_layers c.args.layers.now) c.requires.short c.requires.proven)
     (omega arith)
 
 pub write_cert-requires-clause-form : goal.write_cert-requires-clause-form

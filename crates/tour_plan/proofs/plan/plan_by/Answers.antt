@@ -1,6 +1,6 @@
 use Rattle.std.proofs.Common.{sym, subst}
 use Rattle.duty_core.specs.History.{IsTimed}
-use Rattle.tour_model.specs.LengthLaws.{log_timed}
+use Rattle.tour_model.specs.Laws.LengthLaws.{log_timed}
 use Rattle.tour_plan.proofs.plan.plan_by.Goals as goal
 
 -- the log is one that the book's rules may be asked of

@@ -1,76 +1,45 @@
-use Rattle.std.proofs.Common.{◌≡◌, ℕ, ◌+◌, ◌*◌, ◌^◌, ◌<◌, ◌≤◌, List, length, sym, ◌∙◌, ap, subst, arith}
+use Rattle.std.proofs.Common.{◌≡◌, ◌^◌, ◌<◌, length, sym, subst, arith}
 use Rattle.std.proofs.lemmas.Option.{slice_get_within}
-use Rattle.duty_core.specs.declared.activity.Activity.{Activity}
-use Rattle.duty_core.specs.declared.params.Params.{Params}
-use Rattle.duty_core.specs.Params.{unit_minutes, BeginsUnit}
-use Rattle.rule_core.specs.Machine.{IsMachine}
-use Rattle.rule_core.specs.ReachLaws.{reached_state}
+use Rattle.rule_core.specs.Book.{IsBook}
 use Rattle.rule_core.specs.Reach.{IsOneOf}
-use Rattle.rule_core.specs.Replay.{AreRootsOf}
-use Rattle.tour_model.specs.declared.tour.Tour.{Tour}
-use Rattle.tour_model.specs.Schedule.{log_start, IsSolutionWith, IsShortest}
+use Rattle.tour_model.specs.Schedule.{IsShortest}
 use Rattle.tour_model.specs.Layer.{layer_at}
-use Rattle.tour_model.specs.LengthLaws.{begins_sooner}
-use Rattle.label_state.specs.Path.{HaveParents, path_of}
+use Rattle.label_state.specs.Path.{HaveParents}
 use Rattle.label_search.specs.Sound.{IsSound}
-use Rattle.label_search.specs.Searched.{IsAnswer, IsWithin, layers_of}
+use Rattle.label_search.specs.Searched.{IsAnswer, layers_of}
 use Rattle.cert_text.specs.Planning.{minute_of, problem_of, state_at, IsLogState}
-use Rattle.cert_text.specs.SolutionLaws.{log_ends}
+use Rattle.cert_text.specs.Laws.SolutionLaws.{log_state}
 use Rattle.tour_plan.proofs.Parents.{sound_parents}
 use Rattle.tour_plan.proofs.Proven.{path_proven}
-use Rattle.tour_plan.proofs.plan.plan_from.Given.{Over}
 use Rattle.tour_plan.proofs.plan.plan_from.Goals as goal
 use Rattle.tour_plan.proofs.plan.plan_from.Goals.{In_ok-layers}
-
--- the book's laws at this first minute, as the lemmas take them
-machine : (g : Over) (book : g.row.B.Denot) (params : Params) (first : ℕ) → g.B.RuleBook.params_of book ≡ params → BeginsUnit params first →
-    IsMachine params first (g.B.RuleBook.is_state_at book) (g.B.RuleBook.root_of book first) (g.B.RuleBook.nexts_of book) (g.B.RuleBook.advances_of book) (g.B.RuleBook.covering book) (g.B.RuleBook.idles_of book)
-machine g book params first e begins =
-    subst (λ p. IsMachine p first (g.B.RuleBook.is_state_at book) (g.B.RuleBook.root_of book first) (g.B.RuleBook.nexts_of book) (g.B.RuleBook.advances_of book) (g.B.RuleBook.covering book) (g.B.RuleBook.idles_of book)) e
-    (record {
-      root_is = g.met.B.RuleBook.root_is_state book first (subst (λ p. BeginsUnit p first) (sym e) begins);
-      next_is = g.met.B.RuleBook.next_is_state book;
-      exact = g.met.B.RuleBook.exact book first;
-      advances_reach = g.met.B.RuleBook.advances_reach book;
-      advances_all = g.met.B.RuleBook.advances_all book;
-      itself = g.met.B.RuleBook.covers_itself book;
-      on = g.met.B.RuleBook.covers_on book;
-      simulates = g.met.B.RuleBook.simulation book;
-      tries_allowed = g.met.B.RuleBook.idles_allowed book;
-      tries_cover = g.met.B.RuleBook.idles_cover book;
-    })
-
--- the first minute of the log is one at which a unit begins
-begins : (tour : Tour) (log : List Activity) → BeginsUnit tour.params tour.start → BeginsUnit tour.params (log_start tour log)
-begins tour log b = begins_sooner tour.params tour.start (length log) b
 
 pub search-requires-clause-roots : goal.search-requires-clause-roots
 search-requires-clause-roots g c root o =
     let book = c.args.book.now in
     let tour = c.args.tour.now in
     let log = c.args.log.now in
-    let first = log_start tour log in
-    let m = machine g book tour.params first c.requires.params (begins tour log c.requires.tour.whole_start) in
+    let m = g.B.RuleBook.machine book in
+    let law = subst (λ params. IsBook params m) c.requires.params (g.met.B.RuleBook.laws book) in
     let r = c.requires.roots.reached root (subst (λ rs. IsOneOf rs root) c.items.ensures o) in
-    let e : first + unit_minutes tour.params * length log ≡ tour.start = log_ends tour c.requires.tour log c.requires.short ∙ (let z : minute_of tour 0 ≡ tour.start = omega arith in z) in
-    subst (g.B.RuleBook.is_state_at book root.state) e (reached_state (unit_minutes tour.params) (g.B.RuleBook.is_state_at book) (g.B.RuleBook.nexts_of book) m.next_is log (g.B.RuleBook.root_of book first) first root.marks root.state m.root_is r)
+    subst (m.is_state root.state) (let z : minute_of tour 0 ≡ tour.start = omega arith in z) (log_state tour log m law c.requires.tour c.requires.short root.state (root.marks, r))
 
 pub search-requires-clause-few : goal.search-requires-clause-few
 search-requires-clause-few g c = subst (λ rs. length rs < 2 ^ 32) (sym c.items.ensures) c.requires.roots.few
 
 -- what the search answers of this log
-answer_of : (g : _) (c : In_ok-layers g) → IsAnswer (problem_of c.args.tour.now (g.B.RuleBook.advances_of c.args.book.now) (g.B.RuleBook.covering c.args.book.now) (g.B.RuleBook.idles_of c.args.book.now)) (state_at c.args.tour.now (g.B.RuleBook.is_state_at c.args.book.now)) c.args.tour.now c.args.log.now
-    (IsLogState c.args.tour.now c.args.log.now (g.B.RuleBook.root_of c.args.book.now (log_start c.args.tour.now c.args.log.now)) (g.B.RuleBook.nexts_of c.args.book.now)) c.args.roots.now c.args.budget c.in_ok-layers.field-0
+answer_of : (g : _) (c : In_ok-layers g) → IsAnswer (problem_of c.args.tour.now (g.B.RuleBook.machine c.args.book.now)) (state_at c.args.tour.now (g.B.RuleBook.machine c.args.book.now)) c.args.tour.now c.args.log.now
+    (IsLogState c.args.tour.now c.args.log.now (g.B.RuleBook.machine c.args.book.now)) c.args.roots.now c.args.budget c.in_ok-layers.field-0
 answer_of g c =
     let answer = rw c.items.ensures at c.in_ok-layers.ensures.answer in
     answer c.args.log.now c.requires.short c.requires.roots
 
-sound_of : (g : _) (c : In_ok-layers g) → IsSound (problem_of c.args.tour.now (g.B.RuleBook.advances_of c.args.book.now) (g.B.RuleBook.covering c.args.book.now) (g.B.RuleBook.idles_of c.args.book.now)) c.args.roots.now (layers_of c.in_ok-layers.field-0)
+sound_of : (g : _) (c : In_ok-layers g) → IsSound (problem_of c.args.tour.now (g.B.RuleBook.machine c.args.book.now)) c.args.roots.now (layers_of c.in_ok-layers.field-0)
 sound_of g c = rw c.items.ensures at c.in_ok-layers.ensures.sound
 
 pub rebuild-requires-clause-parents : goal.rebuild-requires-clause-parents
 rebuild-requires-clause-parents g c =
-    let problem = problem_of c.args.tour.now (g.B.RuleBook.advances_of c.args.book.now) (g.B.RuleBook.covering c.args.book.now) (g.B.RuleBook.idles_of c.args.book.now) in
+    let problem = problem_of c.args.tour.now (g.B.RuleBook.machine c.args.book.now) in
     let sound = rw c.in-Found.is at (sound_of g (goal.at.rebuild-requires-clause-parents g c).In_ok-layers) in
     subst (λ rs. HaveParents (length rs) c.in-Found.layers) (sym c.items-in-Found.ensures) (sound_parents problem c.args.roots.now c.in-Found.layers sound)
 
@@ -86,8 +55,7 @@ bytes_of-requires-clause-proven g c =
     let log = c.args.log.now in
     let book = c.args.book.now in
     let found = rw c.in-Found.is at (answer_of g (goal.at.bytes_of-requires-clause-proven g c).In_ok-layers) in
-    path_proven tour log (problem_of tour (g.B.RuleBook.advances_of book) (g.B.RuleBook.covering book) (g.B.RuleBook.idles_of book)) (g.B.RuleBook.is_state_at book)
-    (IsLogState tour log (g.B.RuleBook.root_of book (log_start tour log)) (g.B.RuleBook.nexts_of book)) c.args.roots.now c.in-Found.layers c.in-Found.place c.in_ok-schedule-in-Found.schedule found
+    path_proven tour log (g.B.RuleBook.machine book) c.args.roots.now c.in-Found.layers c.in-Found.place c.in_ok-schedule-in-Found.schedule found
     c.in_ok-schedule-in-Found.ensures.steps (rw c.items-in-Found.ensures at c.in_ok-schedule-in-Found.ensures.marks)
 
 pub bytes_of-requires-clause-few : goal.bytes_of-requires-clause-few
@@ -114,8 +82,7 @@ returns-in-Found g c =
     let book = c.args.book.now in
     let found = rw c.in-Found.is at (answer_of g (goal.at.returns-in-Found g c).In_ok-layers) in
     let steps = c.in_ok-schedule-in-Found.ensures.steps in
-    let proven = path_proven tour log (problem_of tour (g.B.RuleBook.advances_of book) (g.B.RuleBook.covering book) (g.B.RuleBook.idles_of book)) (g.B.RuleBook.is_state_at book)
-    (IsLogState tour log (g.B.RuleBook.root_of book (log_start tour log)) (g.B.RuleBook.nexts_of book)) c.args.roots.now c.in-Found.layers c.in-Found.place c.in_ok-schedule-in-Found.schedule found
+    let proven = path_proven tour log (g.B.RuleBook.machine book) c.args.roots.now c.in-Found.layers c.in-Found.place c.in_ok-schedule-in-Found.schedule found
     steps (rw c.items-in-Found.ensures at c.in_ok-schedule-in-Found.ensures.marks) in
     let cert = c.in_ok-cert-in-Found.ensures in
     record {
