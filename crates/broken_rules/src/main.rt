@@ -29,7 +29,7 @@ fn words(rt: &(impl Env + AllocGlobal)) -> Result<Vec<Word>, NoMemory> {
     Ok(words)
 }
 
-/// The rules' names with one space between them and a line feed behind, or `none`.
+/// The rules' names with one space between them and a line feed after, or `none`.
 fn told(alloc: Global, rules: &Rules) -> Result<Vec<u8>, NoMemory> {
     let mut line = Vec::new(alloc);
     for rule in rules.items() {

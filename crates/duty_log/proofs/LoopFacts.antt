@@ -13,11 +13,11 @@ use Rattle.duty_log.specs.declared.fault.LogFault.TheVariants.{BadHeader, EndsEl
 use Rattle.duty_log.specs.declared.read.TheConstants.{LOG_LIMIT}
 use Rattle.duty_log.specs.declared.row.Row.{Row}
 use Rattle.duty_log.specs.Words.{header}
-use Rattle.duty_log.specs.Log.{at_start, behind, ends_at, Place, ReadsLog, ReadsRecords, ReadsRow, ReadsRows}
+use Rattle.duty_log.specs.Log.{at_start, thereafter, ends_at, Place, ReadsLog, ReadsRecords, ReadsRow, ReadsRows}
 use Rattle.duty_log.specs.Records.{IsBetween, IsReaderOf, records_left}
 use Rattle.duty_log.proofs.RowFacts.{IsNext, row_next}
 use Rattle.duty_log.proofs.RecordFacts.{Moves}
-use Rattle.duty_log.proofs.PlaceFacts.{Continues, IsSound, StaysSound, continues_behind, continues_fault, stays_sound}
+use Rattle.duty_log.proofs.PlaceFacts.{Continues, IsSound, StaysSound, continues_after, continues_fault, stays_sound}
 
 -- What the loop over the rows keeps: the reader goes on, the rows read so far are sound, and those that are left give the rest.
 pub record IsUnderWay (params : Params) (start : ℕ) (reader : Reader (Bor (List ℕ))) (turns : ℕ) (place : Place) (all : List (List (List ℕ))) : Type 0 where
@@ -35,14 +35,14 @@ loop_row params start reader turns place all fields row h told =
 
 -- one more row
 pub goes_on : (params : Params) (start : ℕ) (old new : Reader (Bor (List ℕ))) (turns left : ℕ) (place : Place) (all : List (List (List ℕ))) (fields : List (List ℕ)) (row : Row)
-    → IsUnderWay params start old turns place all → Moves old new fields → 0 < left → ReadsRow params (place.rows + 1) place.span fields (Ok row) → IsUnderWay params start new left (behind params place row) all
+    → IsUnderWay params start old turns place all → Moves old new fields → 0 < left → ReadsRow params (place.rows + 1) place.span fields (Ok row) → IsUnderWay params start new left (thereafter params place row) all
 goes_on params start old new turns left place all fields row h moves more told =
     let r = loop_row params start old turns place all fields row h told in
     record {
       between = moves.between;
       turns_left = more;
       sound = r.1.sound;
-      rest = continues_behind params start place fields (records_left old) (records_left new) all row moves.left told h.rest;
+      rest = continues_after params start place fields (records_left old) (records_left new) all row moves.left told h.rest;
     }
 
 -- a row with a fault
@@ -75,7 +75,7 @@ fresh reader text plain flexible untrimmed unnamed no_headers start source = rec
   all = rw (source, start) refl;
 }
 
--- the records read as the rows behind the header do
+-- the records read as the rows after the header do
 pub headed : (params : Params) (start : ℕ) (old new : Reader (Bor (List ℕ))) (fields : List (List ℕ)) (answer : Result (List Activity) LogFault)
     → Moves old new fields → fields ≡ header → ReadsRows params start at_start (records_left new) answer → ReadsRecords params start (records_left old) answer
 headed params start old new fields answer moves named told = rw moves.left (inl (named, told))

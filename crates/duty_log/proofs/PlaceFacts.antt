@@ -12,7 +12,7 @@ use Rattle.duty_log.specs.declared.fault.LogFault.{LogFault}
 use Rattle.duty_core.specs.declared.limits.TheConstants.{LONGEST_LOG}
 use Rattle.duty_log.specs.declared.row.Row.{Row}
 use Rattle.duty_log.specs.declared.row.Span.{Span}
-use Rattle.duty_log.specs.Log.{at_start, behind, ends_at, first_of, EndsAt, Place, ReadsRow, ReadsRows}
+use Rattle.duty_log.specs.Log.{at_start, thereafter, ends_at, first_of, EndsAt, Place, ReadsRow, ReadsRows}
 use Rattle.duty_log.proofs.RowFacts.{IsNext}
 
 -- What rows that span these minutes keep: each has a minute, they are not too long, and their units fill them.
@@ -43,7 +43,7 @@ all_filled (UsProperty berth days day_start) n k first from to a b = omega arith
 all_filled (Canada berth way cycle day_start) n k first from to a b = omega arith
 all_filled Hvnl n k first from to a b = omega arith
 
--- What is true behind a row that may stand there.
+-- What is true after a row that may stand there.
 pub record StaysSound (params : Params) (rows : ℕ) (before : Option Span) (units : List Activity) (row : Row) : Type 0 where
   pub sound : Fills params (rows + 1) (record { from = first_of before row.from; to = row.to }) (units ++ replicate ((row.to - row.from) / unit_minutes params) row.act)
   pub room : length units + (row.to - row.from) / unit_minutes params ≤ LONGEST_HISTORY
@@ -102,9 +102,9 @@ abbrev pub Continues : Params → ℕ → Place → List (List (List ℕ)) → L
 Continues params start place left all = (answer : Result (List Activity) LogFault) → ReadsRows params start place left answer → ReadsRows params start at_start all answer
 
 -- a row that was read
-pub continues_behind : (params : Params) (start : ℕ) (place : Place) (first : List (List ℕ)) (left later all : List (List (List ℕ))) (row : Row)
-    → left ≡ first ∷ later → ReadsRow params (place.rows + 1) place.span first (Ok row) → Continues params start place left all → Continues params start (behind params place row) later all
-continues_behind params start place first left later all row is told more answer h = more answer (rw is (Ok row, told, h))
+pub continues_after : (params : Params) (start : ℕ) (place : Place) (first : List (List ℕ)) (left later all : List (List (List ℕ))) (row : Row)
+    → left ≡ first ∷ later → ReadsRow params (place.rows + 1) place.span first (Ok row) → Continues params start place left all → Continues params start (thereafter params place row) later all
+continues_after params start place first left later all row is told more answer h = more answer (rw is (Ok row, told, h))
 
 -- a row with a fault
 pub continues_fault : (params : Params) (start : ℕ) (place : Place) (first : List (List ℕ)) (left later all : List (List (List ℕ))) (fault : LogFault)

@@ -31,7 +31,7 @@ pub fields_read : (params : Params) (number : ℕ) (before : Option Span) (field
 fields_read params number before fields from to status r s answer three a b c d told =
     rw three record { begins = result_ok r; ends = result_ok s; from_is = time_read from r a b; to_is = time_read to s c d; told = told }
 
--- What is true of a row behind rows that span `before`.
+-- What is true of a row after rows that span `before`.
 pub record IsNext (params : Params) (before : Option Span) (row : Row) : Type 0 where
   pub some : row.from < row.to
   pub follows : follows before row.from ≡ true
@@ -79,7 +79,7 @@ row_at_next params number before None ends status row e = absurd cc
 row_at_next params number before (Some from) None status row e = absurd cc
 row_at_next params number before (Some from) (Some to) status row e = with_act_next params number before from to (activity_of params status) row e
 
--- a row that is read may stand behind the rows before
+-- a row that is read may stand after the rows before
 pub row_next : (params : Params) (number : ℕ) (before : Option Span) (fields : List (List ℕ)) (row : Row) → ReadsRow params number before fields (Ok row) → IsNext params before row
 row_next params number before [] row e = absurd cc
 row_next params number before (a ∷ []) row e = absurd cc

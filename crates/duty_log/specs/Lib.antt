@@ -1,4 +1,4 @@
 pub mod Words
 pub mod Log
 pub mod Records
-pub mod LogLaws
+pub mod Laws

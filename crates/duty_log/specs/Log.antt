@@ -15,12 +15,12 @@ use Rattle.duty_log.specs.Words.{header, activity_of}
 
 -- ---- one row
 
--- whether a row that begins at this minute leaves no gap behind the rows before
+-- whether a row that begins at this minute leaves no gap after the rows before
 abbrev pub follows : Option Span → ℕ → Bool
 follows None from = true
 follows (Some before) from = from == before.to
 
--- where the log begins, with a row that begins at this minute behind the rows before
+-- where the log begins, with a row that begins at this minute after the rows before
 abbrev pub first_of : Option Span → ℕ → ℕ
 first_of None from = from
 first_of (Some before) from = before.from
@@ -62,7 +62,7 @@ pub record ReadsFields (params : Params) (number : ℕ) (before : Option Span) (
   pub to_is : IsTimeOf to ends
   pub told : answer ≡ row_at params number before begins ends status
 
--- what a record reads as: the row of this number, behind rows that span `before`
+-- what a record reads as: the row of this number, after rows that span `before`
 abbrev pub ReadsRow : Params → ℕ → Option Span → List (List ℕ) → Result Row LogFault → Type 0
 ReadsRow params number before [] answer = answer ≡ Err (NotCsv number)
 ReadsRow params number before (a ∷ []) answer = answer ≡ Err (NotCsv number)
@@ -82,9 +82,9 @@ pub record Place : Type 0 where
 abbrev pub at_start : Place
 at_start = record { rows = 0; span = None; units = [] }
 
--- behind one more row
-abbrev pub behind : Params → Place → Row → Place
-behind params place row = record {
+-- after one more row
+abbrev pub thereafter : Params → Place → Row → Place
+thereafter params place row = record {
   rows = place.rows + 1;
   span = Some (record { from = first_of place.span row.from; to = row.to });
   units = place.units ++ replicate ((row.to - row.from) / unit_minutes params) row.act;
@@ -104,7 +104,7 @@ abbrev pub ReadsRows : Params → ℕ → Place → List (List (List ℕ)) → R
 ReadsRows params start place [] answer = answer ≡ whole start place
 ReadsRows params start place (first ∷ later) answer =
     (row : Result Row LogFault) × ReadsRow params (place.rows + 1) place.span first row
-    × MatchResult row (λ row. ReadsRows params start (behind params place row) later answer) (λ fault. answer ≡ Err fault)
+    × MatchResult row (λ row. ReadsRows params start (thereafter params place row) later answer) (λ fault. answer ≡ Err fault)
 
 -- ---- the log
 

@@ -8,7 +8,7 @@ use duty_core::NoMemory;
 use thiserror::Error;
 
 /// The first thing that is wrong with a log. Rows are looked at in their order, and each row in the
-/// order of this list. `row` counts from 1, behind the header.
+/// order of this list. `row` counts from 1, after the header.
 #[derive(Clone, Copy, Debug, PartialEq, Eq, Error)]
 pub enum LogFault {
     /// The log has more bytes than `LOG_LIMIT`.

@@ -108,7 +108,7 @@ fn read_rows(
     }
 }
 
-/// Puts `n` units of the activity behind a history that has room for them.
+/// Puts `n` units of the activity after a history that has room for them.
 fn append(timeline: &mut Timeline, act: Activity, n: u32) -> Result<(), NoMemory>
     requires { length timeline.old + n ≤ LONGEST_HISTORY }
     ensures { OnOk result (timeline.new ≡ timeline.old ++ replicate n act) }

@@ -26,7 +26,7 @@ pub struct Row {
     pub to: Minute,
 }
 
-/// Reads a record as the row of this number, behind rows that span `before`.
+/// Reads a record as the row of this number, after rows that span `before`.
 pub fn read_row(
     record: &ByteRecord,
     params: Params,
@@ -47,7 +47,7 @@ pub fn read_row(
     check(params, number, before, Row { act, from, to })
 }
 
-/// The row, if its minutes may stand behind rows that span `before`.
+/// The row, if its minutes may stand after rows that span `before`.
 fn check(params: Params, number: u32, before: Option<Span>, row: Row) -> Result<Row, LogFault>
     ensures { result ≡ checked params number before row }
 {
@@ -66,7 +66,7 @@ fn check(params: Params, number: u32, before: Option<Span>, row: Row) -> Result<
     Ok(row)
 }
 
-/// Whether a row that begins at this minute leaves no gap behind rows that span `before`.
+/// Whether a row that begins at this minute leaves no gap after rows that span `before`.
 fn follows(before: Option<Span>, from: Minute) -> bool
     ensures { result ≡ follows before from }
 {
@@ -76,7 +76,7 @@ fn follows(before: Option<Span>, from: Minute) -> bool
     }
 }
 
-/// The minute at which the log begins, where a row that begins at `from` stands behind rows that
+/// The minute at which the log begins, where a row that begins at `from` stands after rows that
 /// span `before`.
 pub fn first_of(before: Option<Span>, from: Minute) -> Minute
     ensures { result ≡ first_of before from }

@@ -1,5 +1,5 @@
 -- Cells one by one, and days one by one.
-use Rattle.std.proofs.Common.{◌≡◌, ℕ, ◌+◌, ◌*◌, List, [], ◌∷◌, ◌++◌, map, refl, sym, ap, subst, ◌∙◌, append_assoc, arith}
+use Rattle.std.proofs.Common.{◌≡◌, ℕ, ◌+◌, ◌*◌, List, [], ◌∷◌, ◌++◌, map, sym, ap, subst, ◌∙◌, append_assoc, arith}
 use Rattle.std.specs.Prelude.{flat_map}
 use Rattle.std.specs.List.{range_with_len}
 use Rattle.std.proofs.lemmas.List.{flat_map_more}
@@ -7,7 +7,7 @@ use Rattle.std.proofs.lemmas.List.FromFn.{map-range_with_len_more}
 use Rattle.duty_core.specs.declared.activity.Activity.{Activity}
 use Rattle.duty_core.specs.declared.params.Params.{Params}
 use Rattle.text_parts.specs.Parts.{Part, Puts}
-use Rattle.text_parts.specs.PartLaws.{puts_on}
+use Rattle.text_parts.specs.Laws.PartLaws.{puts_on}
 use Rattle.log_graph.specs.declared.cells.TheConstants.{CELLS, CELL_MINUTES}
 use Rattle.log_graph.specs.declared.status.Status.{Status}
 use Rattle.log_graph.specs.Graph.{cell, cells, minutes_shown}

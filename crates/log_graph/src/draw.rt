@@ -35,7 +35,7 @@ pub fn graph(
     Ok(text)
 }
 
-/// Puts the graph of a history behind a text, as `graph` gives it.
+/// Puts the graph of a history after a text, as `graph` gives it.
 pub fn push_graph(
     text: &mut Text,
     params: Params,
@@ -68,7 +68,7 @@ fn count_days(params: Params, history: &Timeline, first: Minute) -> u32
     (minutes + (DAY_MINUTES - 1)) / DAY_MINUTES
 }
 
-/// Puts the lines of a day behind the text.
+/// Puts the lines of a day after the text.
 fn push_day(
     text: &mut Text,
     params: Params,
@@ -85,7 +85,7 @@ fn push_day(
     push_rows(text, params, history, first, day)
 }
 
-/// Puts the rows of a day behind the text.
+/// Puts the rows of a day after the text.
 fn push_rows(
     text: &mut Text,
     params: Params,
@@ -110,7 +110,7 @@ fn push_rows(
     }
 }
 
-/// Puts a row of a day behind the text.
+/// Puts a row of a day after the text.
 #[tactic(auto, unfolding(crate::specs::Graph::row_text))]
 fn push_row(
     text: &mut Text,
@@ -132,7 +132,7 @@ fn push_row(
     text.push_str("\n")
 }
 
-/// Puts the cells of a row behind the text.
+/// Puts the cells of a row after the text.
 #[tactic(auto, unfolding(crate::specs::Graph::cells))]
 fn push_cells(
     text: &mut Text,

@@ -44,7 +44,7 @@ tour_json stops =
 
 -- ---- one stop
 
--- what stands behind the numbers of a stop
+-- what stands after the numbers of a stop
 abbrev pub windows_text : List ℕ
 windows_text = codes ",\"windows\":[[\"2026-03-02T06:00\",\"2026-03-15T06:00\"]]}"
 
@@ -84,7 +84,7 @@ lex-drive drive service rest small short =
     ap (λ l. comma ∷ token (token_of.string (codes "drive")) ∷ colon ∷ l)
     (lex-number (decimal drive) more (IsNumber-decimal drive small) refl ∙ ap (λ l. token (token_of.number (decimal drive)) ∷ l) (lex-service service rest short))
 
--- a stop's text without the comma before it, and what comes behind it
+-- a stop's text without the comma before it, and what comes after it
 abbrev stop_then : (before drive service : ℕ) → List ℕ → List ℕ
 stop_then before drive service rest =
     codes "{\"name\":\"S" ++ (decimal (before + 1) ++ (codes "\",\"drive\":" ++ (decimal drive ++ (codes ",\"service\":" ++ (decimal service ++ (windows_text ++ rest))))))
@@ -108,7 +108,7 @@ stop_text_then : (before drive service : ℕ) (rest : List ℕ) → stop_text be
 stop_text_then before drive service rest =
     regroup (comma_before before) (codes "{\"name\":\"S") (decimal (before + 1)) (codes "\",\"drive\":") (decimal drive) (codes ",\"service\":") (decimal service) windows_text rest
 
--- the tokens of a stop, behind the bracket of the array and behind another stop
+-- the tokens of a stop, after the bracket of the array and after another stop
 first_stop_tokens : (before drive service : ℕ) (ls : List Lexeme) → punctuate fresh (stop_lexemes before drive service ls) ≡ json_tokens (stop_json (name_drawn before) drive service) ++ punctuate after_value ls
 unfolding punctuate
 first_stop_tokens before drive service ls = refl
@@ -119,7 +119,7 @@ later_stop_tokens before drive service ls = refl
 
 -- ---- the stops
 
--- what stands behind the stops
+-- what stands after the stops
 abbrev pub tour_end : List ℕ
 tour_end = codes "]}\n"
 
@@ -135,7 +135,7 @@ pub record AreDrawn (drive service : ℕ → ℕ) : Type 0 where
 later_comma : (before : ℕ) → 0 < before → comma_before before ≡ codes ","
 later_comma before some = rw (ne_eqb before 0 (λ e. omega arith)) refl
 
--- one stop, and those behind it
+-- one stop, and those after it
 stop_and_others : (drive service : ℕ → ℕ) → AreDrawn drive service → (n before : ℕ) → before < 20
     → lex between (stops_text drive service before (suc n) ++ tour_end) ≡ lex between (comma_before before ++ stop_then before (drive before) (service before) (stops_text drive service (before + 1) n ++ tour_end))
 stop_and_others drive service drawn n before few =
@@ -233,7 +233,7 @@ lex-head rest =
     lex-grid (codes "30" ++ (start_text ++ (codes "8" ++ (days_text ++ rest))))
     ∙ ap head_lexemes (lex-thirty (codes "8" ++ (days_text ++ rest)) ∙ ap start_lexemes (lex-eight rest))
 
--- the tokens of what stands before the stops, and behind it
+-- the tokens of what stands before the stops, and after it
 head_tokens : (ls : List Lexeme) (js : Items) → punctuate fresh ls ≡ items_tokens js ++ token_of.end_object ∷ [] → punctuate fresh (head_lexemes (start_lexemes (days_lexemes ls))) ≡ json_tokens (tour_json js)
 unfolding punctuate
 head_tokens ls js stops =

@@ -5,7 +5,7 @@ use Rattle.std.proofs.lemmas.Bool.Decides.{nat_tests}
 use Rattle.csv.proofs.OnLiterals.{csv_on_literals}
 use Rattle.csv.specs.Reading.{default_config, records, strip_bom}
 use Rattle.civil_minutes.specs.TimeOf.{time_of}
-use Rattle.civil_minutes.specs.TimeOfLaws.{text_of_time}
+use Rattle.civil_minutes.specs.Laws.TimeOfLaws.{text_of_time}
 use Rattle.duty_core.specs.declared.activity.Activity.{Activity}
 use Rattle.duty_core.specs.declared.activity.Activity.TheVariants.{Serve, Off}
 use Rattle.duty_core.specs.declared.limits.TheConstants.{LONGEST_LOG}
@@ -15,7 +15,7 @@ use Rattle.duty_log.specs.declared.fault.LogFault.{LogFault}
 use Rattle.duty_log.specs.declared.fault.LogFault.TheVariants.{Empty, Gap, NotOnUnit, TooLong}
 use Rattle.duty_log.specs.declared.row.Row.{Row}
 use Rattle.duty_log.specs.declared.row.Span.{Span}
-use Rattle.duty_log.specs.Log.{Place, ReadsFields, ReadsLog, ReadsRows, at_start, behind, checked, first_of, follows, row_at, with_act}
+use Rattle.duty_log.specs.Log.{Place, ReadsFields, ReadsLog, ReadsRows, at_start, thereafter, checked, first_of, follows, row_at, with_act}
 use Rattle.duty_log.specs.Words.{activity_of, header}
 use Rattle.report_text.specs.Made.{log_made}
 use Rattle.made_tours.specs.Drawn.{work_and_rest, log_drawn}
@@ -31,9 +31,9 @@ row_of act from to = record { act = act; from = from; to = to }
 -- ---- one row
 
 -- the tests of a row, in their order
-abbrev tested : ℕ → Row → (empty behind_it from_whole to_whole long : Bool) → Result Row LogFault
-tested number row empty behind_it from_whole to_whole long =
-    cond empty (Err (Empty number)) (cond (not behind_it) (Err (Gap number)) (cond (not (from_whole && to_whole)) (Err (NotOnUnit number)) (cond long (Err (TooLong number)) (Ok row))))
+abbrev tested : ℕ → Row → (empty after_it from_whole to_whole long : Bool) → Result Row LogFault
+tested number row empty after_it from_whole to_whole long =
+    cond empty (Err (Empty number)) (cond (not after_it) (Err (Gap number)) (cond (not (from_whole && to_whole)) (Err (NotOnUnit number)) (cond long (Err (TooLong number)) (Ok row))))
 
 checked_ok : (number from to : ℕ) (act : Activity) (before : Option Span) → from < to → follows before from ≡ true → to - first_of before from ≤ LONGEST_LOG → checked us number before (row_of act from to) ≡ Ok (row_of act from to)
 checked_ok number from to act before some next short =
@@ -59,16 +59,16 @@ fields_say number before f t s from to act begins ends word some next short = re
   told = sym (ap (with_act us number before from to) word ∙ checked_ok number from to act before some next short);
 }
 
--- a row, and the rows behind it
+-- a row, and the rows after it
 row_says : (start : ℕ) (place : Place) (f t s : List ℕ) (from to : ℕ) (act : Activity) (later : List (List (List ℕ))) (answer : Result (List Activity) LogFault)
     → time_of f ≡ Some from → time_of t ≡ Some to → activity_of us s ≡ Some act → from < to → follows place.span from ≡ true → to - first_of place.span from ≤ LONGEST_LOG
-    → ReadsRows us start (behind us place (row_of act from to)) later answer → ReadsRows us start place ((f ∷ t ∷ s ∷ []) ∷ later) answer
+    → ReadsRows us start (thereafter us place (row_of act from to)) later answer → ReadsRows us start place ((f ∷ t ∷ s ∷ []) ∷ later) answer
 row_says start place f t s from to act later answer begins ends word some next short more =
     (Ok (row_of act from to), fields_say (place.rows + 1) place.span f t s from to act begins ends word some next short, more)
 
 -- ---- a day of work
 
--- behind rows that span these minutes
+-- after rows that span these minutes
 abbrev place_at : (rows first to : ℕ) → List Activity → Place
 place_at rows first to units = record { rows = rows; span = Some (record { from = first; to = to }); units = units }
 
@@ -84,7 +84,7 @@ units_first : (work rest : ℕ) → ([] ++ replicate (work / 1) Serve) ++ replic
 unfolding work_and_rest
 units_first work rest = ap (λ n. replicate n Serve ++ replicate (rest / 1) Off) (whole_minutes work) ∙ ap (λ n. replicate work Serve ++ replicate n Off) (whole_minutes rest)
 
--- the times of a day: the beginning and the end of its work, and the end of the rest behind it
+-- the times of a day: the beginning and the end of its work, and the end of the rest after it
 record IsDay (x y z : List ℕ) (a b c : ℕ) : Type 0 where
   begins : time_of x ≡ Some a
   ends : time_of y ≡ Some b
@@ -105,7 +105,7 @@ first_day start x y z a b c later answer day short more =
     let worked = day.worked in
     let rested = day.rested in
     row_says start at_start x y (codes "ON") a b Serve ((y ∷ z ∷ codes "OFF" ∷ []) ∷ later) answer day.begins day.ends refl worked refl (omega arith)
-    (row_says start (behind us at_start (row_of Serve a b)) y z (codes "OFF") b c Off later answer day.ends day.next refl rested (eq-eqb b b refl) (omega arith)
+    (row_says start (thereafter us at_start (row_of Serve a b)) y z (codes "OFF") b c Off later answer day.ends day.next refl rested (eq-eqb b b refl) (omega arith)
     (subst (λ (units : List Activity). us_says start (place_at 2 a c units) later answer) (sym (units_first (b - a) (c - b))) more))
 
 later_day : (start rows first : ℕ) (units : List Activity) (x y z : List ℕ) (a b c : ℕ) (later : List (List (List ℕ))) (answer : Result (List Activity) LogFault) → IsDay x y z a b c → first ≤ a → c - first ≤ LONGEST_LOG
@@ -114,7 +114,7 @@ later_day start rows first units x y z a b c later answer day from short more =
     let worked = day.worked in
     let rested = day.rested in
     row_says start (place_at rows first a units) x y (codes "ON") a b Serve ((y ∷ z ∷ codes "OFF" ∷ []) ∷ later) answer day.begins day.ends refl worked (eq-eqb a a refl) (omega arith)
-    (row_says start (behind us (place_at rows first a units) (row_of Serve a b)) y z (codes "OFF") b c Off later answer day.ends day.next refl rested (eq-eqb b b refl) (omega arith)
+    (row_says start (thereafter us (place_at rows first a units) (row_of Serve a b)) y z (codes "OFF") b c Off later answer day.ends day.next refl rested (eq-eqb b b refl) (omega arith)
     (subst (λ (all : List Activity). us_says start (place_at (rows + 1 + 1) first c all) later answer) (sym (units_more units (b - a) (c - b))) more))
 
 -- ---- the week

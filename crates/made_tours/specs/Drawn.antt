@@ -48,7 +48,7 @@ tour_drawn seed = record {
 unfoldable pub work_and_rest : ℕ → ℕ → List Activity
 work_and_rest work rest = replicate work Serve ++ replicate rest Off
 
--- five days of nine hours of work, with rest up to the next one and, behind the last, up to the tour's start
+-- five days of nine hours of work, with rest up to the next one and, after the last, up to the tour's start
 abbrev pub log_drawn : List Activity
 log_drawn = work_and_rest 540 900 ++ work_and_rest 540 900 ++ work_and_rest 540 900 ++ work_and_rest 540 900 ++ work_and_rest 540 3_660
 

@@ -54,7 +54,7 @@ fn tour_said(alloc: Global, text: &[u8], n: u32) -> Result<Tour, NoMemory>
     }
 }
 
-/// What is left where only memory can be wanting.
+/// What is left where only memory can run out.
 fn no_tour_memory(fault: TourFault) -> NoMemory
     requires { fault ≢ TourFault.Memory → ⊥ }
 {
@@ -78,7 +78,7 @@ fn log_said(alloc: Global, text: &[u8], tour: &Tour) -> Result<Timeline, NoMemor
     }
 }
 
-/// What is left where only memory can be wanting.
+/// What is left where only memory can run out.
 fn no_log_memory(fault: LogFault) -> NoMemory
     requires { fault ≢ LogFault.Memory → ⊥ }
 {

@@ -1,4 +1,4 @@
--- The history of a log and a schedule behind it, unit by unit.
+-- The history of a log and a schedule after it, unit by unit.
 use Rattle.std.proofs.Common.{◌≡◌, ℕ, ◌+◌, ◌<◌, ◌≤◌, List, ◌++◌, length, replicate, take, get_or, sym, ap, ◌∙◌, length-append, arith}
 use Rattle.std.specs.Prelude.{flat_map}
 use Rattle.std.proofs.lemmas.List.{take_more, flat_map_more, length-replicate}

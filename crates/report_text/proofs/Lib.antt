@@ -4,3 +4,4 @@ mod MarkTimes
 mod Placed
 mod Histories
 mod Drawn
+mod OneReport

@@ -20,7 +20,7 @@ use Rattle.duty_core.specs.History.{pad_days, padded}
 use Rattle.duty_core.specs.MarkMeaning.{StandsIn}
 use Rattle.duty_core.specs.RestRun.{IsRun}
 use Rattle.duty_core.specs.declared.params.RestWay.{RestWay}
-use Rattle.duty_core.specs.BookLaws.{are_true}
+use Rattle.duty_core.specs.Laws.BookLaws.{are_true}
 use Rattle.duty_core.specs.Lawful.{IsLawfulWith}
 use Rattle.duty_core.specs.Params.{AreGoodParams}
 use Rattle.civil_minutes.specs.declared.century.TheConstants.{MINUTES_OF_CENTURY}

@@ -1,4 +1,4 @@
--- Where the history of a log and a solution behind it lies in time.
+-- Where the history of a log and a solution after it lies in time.
 use Rattle.std.proofs.Common.{◌≡◌, ℕ, ◌+◌, ◌-◌, ◌*◌, ◌<◌, ◌≤◌, List, length, subst, sym, arith}
 use Rattle.std.specs.Prelude.{Option, IfSome, Some, None, All}
 use Rattle.std.proofs.lemmas.List.Elements.{All-weaker}
@@ -19,7 +19,7 @@ use Rattle.tour_model.specs.declared.limits.TheConstants.{LONGEST_TOUR, LATEST_S
 use Rattle.tour_model.specs.declared.tour.Tour.{Tour}
 use Rattle.tour_model.specs.Tour.{IsTour}
 use Rattle.tour_model.specs.Schedule.{IsSolutionWith, units_of, step_units, history_of, log_start}
-use Rattle.tour_model.specs.LengthLaws.{serves_short, length-units, begins_sooner}
+use Rattle.tour_model.specs.Laws.LengthLaws.{serves_short, length-units, begins_sooner}
 use Rattle.report_text.proofs.MarkTimes.{mark_times}
 
 -- the history begins at a whole unit, early in time, and ends long before the year 2100
@@ -30,9 +30,9 @@ pub record IsPlaced (tour : Tour) (log xs : List Activity) : Type 0 where
   pub long : length (history_of tour log xs) ≤ LONGEST_HISTORY
   pub ends : log_start tour log + unit_minutes tour.params * length (history_of tour log xs) ≤ MINUTES_OF_CENTURY
   pub padded_ends : log_start tour log + length (history_of tour log xs) + 40_320 ≤ MINUTES_OF_CENTURY
-  pub behind : length log ≤ length (history_of tour log xs)
+  pub thereafter : length log ≤ length (history_of tour log xs)
 
--- so many units behind a log end within the century
+-- so many units after a log end within the century
 ends_before : (params : Params) (start l n : ℕ) → start ≤ LATEST_START → unit_minutes params * l ≤ start → n ≤ LONGEST_TOUR → (start - unit_minutes params * l) + unit_minutes params * (l + n) ≤ MINUTES_OF_CENTURY
 ends_before (UsProperty berth days day_start) start l n late inside short = omega arith
 ends_before (Canada berth way cycle day_start) start l n late inside short = omega arith
@@ -67,7 +67,7 @@ placed tour t log xs short few =
       long = omega (arith, whole, units, minutes, short);
       ends = subst (λ n. log_start tour log + unit_minutes tour.params * n ≤ MINUTES_OF_CENTURY) (sym whole) (ends_before tour.params tour.start (length log) (length (units_of (step_units tour) xs)) late starts units);
       padded_ends = omega arith;
-      behind = omega (arith, whole);
+      thereafter = omega (arith, whole);
     }
 
 -- what is timed before an earlier minute is timed before a later one

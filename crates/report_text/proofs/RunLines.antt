@@ -15,10 +15,10 @@ use Rattle.tour_model.specs.declared.limits.TheConstants.{LONGEST_TOUR, LATEST_S
 use Rattle.tour_model.specs.declared.tour.Tour.{Tour}
 use Rattle.tour_model.specs.Tour.{IsTour}
 use Rattle.tour_model.specs.Way.{done}
-use Rattle.tour_model.specs.LengthLaws.{tour_grid_some}
+use Rattle.tour_model.specs.Laws.LengthLaws.{tour_grid_some}
 use Rattle.report_text.specs.declared.runs.Doing.{Doing}
 use Rattle.text_parts.specs.Parts.{Part, Puts}
-use Rattle.text_parts.specs.PartLaws.{puts_on}
+use Rattle.text_parts.specs.Laws.PartLaws.{puts_on}
 use Rattle.report_text.specs.Report.{same_act, same_stop, same, Run, runs_with, runs_of, doing_at, doings, minute_of, run_line, run_lines, mark_line, mark_lines, reading_line, reading_lines}
 
 -- ---- what steps do the same
@@ -85,14 +85,14 @@ runs_other : (n : ℕ) (x y : Doing) (ys : List Doing) → same x y ≡ false �
 runs_other zero x y ys e = other_head x y (runs_of ys) e
 runs_other (suc n) x y ys e = rw (runs_other n x y ys e, same-same x, add-one) refl
 
--- a step behind a run of its kind belongs to the run
+-- a step after a run of its kind belongs to the run
 runs_more : (n : ℕ) (x : Doing) (ys : List Doing) → replicate n x ++ x ∷ ys ≡ replicate (suc n) x ++ ys
 runs_more zero x ys = refl
 runs_more (suc n) x ys = ap (λ zs. x ∷ zs) (runs_more n x ys)
 
 -- ---- lines
 
--- The text so far, with the lines of the run in progress, from one step up to another, and of all that comes behind it, is the whole.
+-- The text so far, with the lines of the run in progress, from one step up to another, and of all that comes after it, is the whole.
 pub record HasTold (tour : Tour) (old text : List ℕ) (from step : ℕ) (x : Doing) (rest : List Doing) (whole : List Part) : Type 0 where
   pub more : ℕ
   pub is : from + suc more ≡ step

@@ -34,7 +34,7 @@ stop_text before drive service =
     comma_before before ++ codes "{\"name\":\"S" ++ decimal (before + 1) ++ codes "\",\"drive\":" ++ decimal drive ++ codes ",\"service\":" ++ decimal service
     ++ codes ",\"windows\":[[\"2026-03-02T06:00\",\"2026-03-15T06:00\"]]}"
 
--- the stop with so many stops before it: its driving and then its service are drawn, behind the draw of the number of stops and two for each stop before
+-- the stop with so many stops before it: its driving and then its service are drawn, after the draw of the number of stops and two for each stop before
 unfoldable pub stop_made : ℕ → ℕ → List ℕ
 stop_made seed before = stop_text before (drive_drawn (draw seed (2 * before + 2))) (service_drawn (draw seed (2 * before + 3)))
 
@@ -46,7 +46,7 @@ tour_head = codes "{\"book\":\"us\",\"grid\":30,\"start\":\"2026-03-02T06:00\",\
 abbrev pub tour_made : ℕ → List ℕ
 tour_made seed = tour_head ++ flat_map (λ (stop : List ℕ). stop) (map (stop_made seed) (range_with_len 0 (stops_drawn seed))) ++ codes "]}\n"
 
--- the log before each made tour: five days of work from 08:00 to 17:00, and rest behind each
+-- the log before each made tour: five days of work from 08:00 to 17:00, and rest after each
 abbrev pub log_made : List ℕ
 log_made =
     codes "from,to,status\n2026-02-23T08:00,2026-02-23T17:00,ON\n2026-02-23T17:00,2026-02-24T08:00,OFF\n2026-02-24T08:00,2026-02-24T17:00,ON\n2026-02-24T17:00,2026-02-25T08:00,OFF\n2026-02-25T08:00,2026-02-25T17:00,ON\n2026-02-25T17:00,2026-02-26T08:00,OFF\n2026-02-26T08:00,2026-02-26T17:00,ON\n2026-02-26T17:00,2026-02-27T08:00,OFF\n2026-02-27T08:00,2026-02-27T17:00,ON\n2026-02-27T17:00,2026-03-02T06:00,OFF\n"

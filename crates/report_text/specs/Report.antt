@@ -148,18 +148,18 @@ abbrev pub reading_lines : List (Rule × Option Reading) → List Part
 reading_lines [] = []
 reading_lines (line ∷ lines) = reading_line line ++ reading_lines lines
 
--- the report of steps and marks behind a log, of which the rules count this
+-- the report of steps and marks after a log, of which the rules count this
 abbrev pub report : Tour → List Activity → List Activity → List Mark → List (Rule × Option Reading) → List Part
 report tour log schedule marks readings =
     (((head_line tour schedule ++ run_lines tour 0 (runs_of (doings tour 0 schedule))) ++ mark_lines tour.params marks) ++ reading_lines readings)
     ++ graph_lines tour.params (log_start tour log) (history_of tour log schedule)
 
--- The text is the report of steps and marks of the tour behind the log: what the steps do and the marks, what each rule counts in the history of both, and the graph of that history.
+-- The text is the report of steps and marks of the tour after the log: what the steps do and the marks, what each rule counts in the history of both, and the graph of that history.
 pub record IsReportOf (tour : Tour) (log steps : List Activity) (marks : List Mark) (text : List ℕ) : Type 0 where
   pub readings : List (Rule × Option Reading)
   pub counted : AreReadings tour.params (log_start tour log) (history_of tour log steps) (length log) marks readings
   pub told : IsText (report tour log steps marks readings) text
 
--- The text is the report of a schedule of the tour behind the log.
+-- The text is the report of a schedule of the tour after the log.
 abbrev pub IsReport : Tour → List Activity → Schedule → List ℕ → Type 0
 IsReport tour log schedule text = IsReportOf tour log schedule.steps schedule.marks text

@@ -1,4 +1,4 @@
-//! The history of a log and a schedule behind it.
+//! The history of a log and a schedule after it.
 ghost use Rattle.std.specs.Prelude.{◌≡◌, ◌+◌, ◌*◌, ◌≤◌, ◌++◌, length, replicate, IfOk, OnOk};
 ghost use Rattle.duty_core.specs.declared.limits.TheConstants.{LONGEST_HISTORY};
 ghost use Rattle.duty_core.specs.Params.{unit_minutes};
@@ -8,7 +8,7 @@ use duty_core::{Activity, Minute, NoMemory, unit_of};
 use timeline::{Timeline, TimelineFault};
 use tour_model::Tour;
 
-/// The units of the log and, behind them, those of the schedule.
+/// The units of the log and, after them, those of the schedule.
 pub fn history_of(tour: &Tour, log: &Timeline, schedule: &[Activity]) -> Result<Timeline, NoMemory>
     requires { length (history_of tour.now log.now schedule.now) ≤ LONGEST_HISTORY }
     ensures { IfOk result (λ history. history ≡ history_of tour.now log.now schedule.now) }
@@ -36,7 +36,7 @@ pub fn log_start(tour: &Tour, log: &Timeline) -> Minute
     tour.start - unit_of(tour.params) * log.len()
 }
 
-/// Puts `n` units of the activity behind a history that has room for them.
+/// Puts `n` units of the activity after a history that has room for them.
 fn append(history: &mut Timeline, act: Activity, n: u32) -> Result<(), NoMemory>
     requires { length history.old + n ≤ LONGEST_HISTORY }
     ensures { OnOk result (history.new ≡ history.old ++ replicate n act) }

@@ -4,6 +4,7 @@
 mod draws;
 mod head;
 mod history;
+mod laws;
 mod maker;
 mod marks;
 mod rules;
@@ -12,6 +13,7 @@ mod runs;
 mod tests;
 mod write;
 
+pub use laws::reports_are_one;
 pub use maker::{MOST_MADE, Made, make_tour};
 pub use runs::Doing;
 pub use write::report;

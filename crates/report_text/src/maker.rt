@@ -47,7 +47,7 @@ pub fn make_tour(alloc: Global, n: u32) -> Result<Made, NoMemory>
     Ok(Made { tour, log })
 }
 
-/// Puts the stops that are drawn from a seed behind the text.
+/// Puts the stops that are drawn from a seed after the text.
 fn push_stops(text: &mut Text, alloc: Global, seed: u64) -> Result<(), NoMemory>
     requires { seed < DRAW_MODULUS }
     ensures { OnOk result (text.new ≡ text.old ++ flat_map (λ stop. stop) (map (stop_made seed) (range_with_len 0 (stops_drawn seed)))) }
@@ -86,7 +86,7 @@ fn service_of(number: u64) -> u64
     30 * (1 + drawn(number) % 3)
 }
 
-/// Puts the stop that has so many stops before it behind the text.
+/// Puts the stop that has so many stops before it after the text.
 fn push_stop(
     text: &mut Text,
     alloc: Global,

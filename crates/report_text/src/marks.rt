@@ -13,7 +13,7 @@ use duty_core::{Mark, Minute, NoMemory, Params};
 use log_graph::day_start;
 use text_parts::Text;
 
-/// Puts a line for each mark behind the text.
+/// Puts a line for each mark after the text.
 pub fn push_marks(text: &mut Text, params: Params, marks: &[Mark]) -> Result<(), NoMemory>
     requires good { AreGoodParams params }
     requires marks { All (IsMarkForm params 0) marks.now }
@@ -25,7 +25,7 @@ pub fn push_marks(text: &mut Text, params: Params, marks: &[Mark]) -> Result<(),
     Ok(())
 }
 
-/// Puts the line of a mark behind the text.
+/// Puts the line of a mark after the text.
 fn push_mark(text: &mut Text, params: Params, mark: Mark) -> Result<(), NoMemory>
     requires good { AreGoodParams params }
     requires mark { IsMarkForm params 0 mark }

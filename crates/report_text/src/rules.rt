@@ -10,7 +10,7 @@ use rule_readings::Reading;
 use std::alloc::Global;
 use text_parts::Text;
 
-/// Puts a line for each rule behind the text.
+/// Puts a line for each rule after the text.
 pub fn push_readings(
     text: &mut Text,
     alloc: Global,
@@ -25,7 +25,7 @@ pub fn push_readings(
     Ok(())
 }
 
-/// Puts the line of a rule behind the text.
+/// Puts the line of a rule after the text.
 fn push_reading(
     text: &mut Text,
     alloc: Global,
@@ -41,7 +41,7 @@ fn push_reading(
     text.push_str("\n")
 }
 
-/// Puts what a rule counts behind the text, or `-` where it looks at nothing.
+/// Puts what a rule counts after the text, or `-` where it looks at nothing.
 fn push_found(text: &mut Text, alloc: Global, found: Option<Reading>) -> Result<(), NoMemory>
     requires { IfSome found (λ reading. reading.at < MINUTES_OF_CENTURY) }
     ensures { OnOk result (Puts (found_parts found) text.old text.new) }

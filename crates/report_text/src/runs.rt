@@ -20,7 +20,7 @@ pub struct Doing {
     pub stop: Option<u32>,
 }
 
-/// Puts a line for each run of equal steps behind the text.
+/// Puts a line for each run of equal steps after the text.
 pub fn push_runs(text: &mut Text, tour: &Tour, schedule: &[Activity]) -> Result<(), NoMemory>
     requires tour { IsTour tour.now }
     requires short { length schedule.now * tour.now.grid ≤ LONGEST_TOUR }
@@ -46,7 +46,7 @@ pub fn push_runs(text: &mut Text, tour: &Tour, schedule: &[Activity]) -> Result<
     push_run(text, tour, from, step, doing)
 }
 
-/// Puts the line of one run behind the text.
+/// Puts the line of one run after the text.
 fn push_run(text: &mut Text, tour: &Tour, from: u32, to: u32, doing: Doing) -> Result<(), NoMemory>
     requires from { minute_of tour.now from < MINUTES_OF_CENTURY }
     requires to { minute_of tour.now to < MINUTES_OF_CENTURY }
@@ -60,7 +60,7 @@ fn push_run(text: &mut Text, tour: &Tour, from: u32, to: u32, doing: Doing) -> R
     text.push_str("\n")
 }
 
-/// Puts the word and the name of a run behind the text.
+/// Puts the word and the name of a run after the text.
 fn push_doing(text: &mut Text, tour: &Tour, doing: Doing) -> Result<(), NoMemory>
     ensures { OnOk result (text.new ≡ text.old ++ doing_text tour.now doing) }
 {
@@ -69,7 +69,7 @@ fn push_doing(text: &mut Text, tour: &Tour, doing: Doing) -> Result<(), NoMemory
     push_name(text, tour, doing.stop)
 }
 
-/// Puts the name of a stop behind the text, or `-` where there is none.
+/// Puts the name of a stop after the text, or `-` where there is none.
 fn push_name(text: &mut Text, tour: &Tour, stop: Option<u32>) -> Result<(), NoMemory>
     ensures { OnOk result (text.new ≡ text.old ++ name_of (stop_at tour.now.stops stop)) }
 {

@@ -21,7 +21,7 @@ use text_parts::Text;
 use timeline::Timeline;
 use tour_model::{Schedule, Tour};
 
-/// The report of a solution behind a log that ends where the tour starts: its duration, departure
+/// The report of a solution after a log that ends where the tour starts: its duration, departure
 /// and end; a line for each of its runs and each of its marks, with their times; what each rule of
 /// the book counts at most, or at least, in the history of both; and the graph of that history.
 ///

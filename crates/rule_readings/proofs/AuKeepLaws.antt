@@ -8,9 +8,9 @@ use Rattle.duty_core.specs.declared.rule.Rule.{Rule}
 use Rattle.duty_core.specs.declared.rule.Rule.TheVariants.{Au5h30, Au8h, Au11h, Au24h, Au24hRest, Au7d, Au7dRest, Au14d, Au14dNights}
 use Rattle.duty_core.specs.Activity.{rests}
 use Rattle.duty_core.specs.History.{unit_at}
-use Rattle.duty_core.specs.HistoryLaws.{unit_at-past}
+use Rattle.duty_core.specs.Laws.HistoryLaws.{unit_at-past}
 use Rattle.duty_core.specs.AuPeriods.{IsStart}
-use Rattle.duty_core.specs.PrefixLaws.{no_duty}
+use Rattle.duty_core.specs.Laws.PrefixLaws.{no_duty}
 use Rattle.duty_core.specs.RuleBooks.{KeepsPadded}
 use Rattle.rule_readings.specs.AuKeeps.{IsAustralian, MeetsAu}
 

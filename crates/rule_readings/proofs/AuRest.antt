@@ -11,7 +11,7 @@ use Rattle.rule_readings.specs.AuCounts.{IsLongestRest}
 pub not_both : (p : List Activity) (k : ℕ) → rests (unit_at p k) ≡ true → rests (unit_at p k) ≡ false → ⊥
 not_both p k a b = let z : true ≡ false = sym a ∙ b in cc
 
--- one more unit of rest behind a stretch of rest
+-- one more unit of rest after a stretch of rest
 pub rest_more : (p : List Activity) (from to : ℕ) → IsRest p from to → rests (unit_at p to) ≡ true → IsRest p from (to + 1)
 rest_more p from to h r k a b = elim (cases_lt k to) [
   | inl c ↦ h k a c

@@ -3,7 +3,7 @@ use Rattle.std.proofs.Common.{◌≡◌, ℕ, ◌+◌, ◌<◌, ◌≤◌, List,
 use Rattle.duty_core.specs.declared.activity.Activity.{Activity}
 use Rattle.duty_core.specs.DeclaredRest.{IsDeclared, IsLastDeclared}
 use Rattle.duty_core.specs.Base.{IsBase}
-use Rattle.duty_core.specs.UniqueLaws.{last_declared_start, last_declared_end}
+use Rattle.duty_core.specs.Laws.UniqueLaws.{last_declared_start, last_declared_end}
 use Rattle.rule_readings.specs.declared.base.Base.{Base}
 use Rattle.rule_readings.specs.BaseFound.{IsBaseFound}
 

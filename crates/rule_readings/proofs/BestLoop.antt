@@ -72,7 +72,7 @@ best_new order Value i n (Some best) v one better h = record {
   first = λ k x. below_cases Value i k n (i ≤ k) x (λ e w. omega arith) (λ y. absurd (beaten order n best better (h.best k n y)));
 }
 
--- at the end, behind which there is no value
+-- at the end, after which there is no value
 pub best_all : (order : Order) (Value : ℕ → ℕ → Type 0) (i : ℕ) (best : Option Best) → ((k n : ℕ) → Value k n → k < i) → IsBestFound order (IsBelow Value i) best → IsBestFound order Value best
 best_all order Value i None inside h = λ k n v. h k n (record { before = inside k n v; value = v })
 best_all order Value i (Some best) inside h = record {

@@ -17,9 +17,9 @@ use Rattle.duty_core.specs.Marks.{IsSplitAt}
 use Rattle.duty_core.specs.Base.{elapsed}
 use Rattle.duty_core.specs.CaCycle.{cycle_days, cycle_reset, MeetsCa24in14}
 use Rattle.duty_core.specs.RuleBooks.{KeepsPadded, cycle_of}
-use Rattle.duty_core.specs.HistoryLaws.{unit_at-past}
-use Rattle.duty_core.specs.UniqueLaws.{base_unique, omitted_unique, last_end_unique, days_base_unique, first_of_days_unique}
-use Rattle.duty_core.specs.ExistLaws.{has_last_end}
+use Rattle.duty_core.specs.Laws.HistoryLaws.{unit_at-past}
+use Rattle.duty_core.specs.Laws.UniqueLaws.{base_unique, omitted_unique, last_end_unique, days_base_unique, first_of_days_unique}
+use Rattle.duty_core.specs.Laws.ExistLaws.{has_last_end}
 use Rattle.rule_readings.proofs.HeldRuns.{in_run}
 use Rattle.rule_readings.specs.declared.ca_cycle.TheConstants.{CA_SINCE_DAY_OFF_LIMIT}
 use Rattle.rule_readings.specs.CaHistory.{IsPadded}

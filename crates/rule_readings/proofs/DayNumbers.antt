@@ -50,7 +50,7 @@ places_none test (suc n) h =
 other_day : (d j : ℕ) (b : Bool) → (d ≡ j → ⊥) → (nat_eq d j && b) ≡ false
 other_day d j b h = let e : nat_eq d j ≡ false = grind (arith, nat_tests) in ap (λ x. x && b) e
 
--- a day before the first place, or behind the end, loses nothing
+-- a day before the first place, or after the end, loses nothing
 pub lost_early : (params : Params) (first : ℕ) (p : List Activity) (j : ℕ) → j < day_number params first 0 → lost (day_number params first) p j ≡ 0
 lost_early params first p j l = places_none (λ i. nat_eq (day_number params first i) j && is_lost p i) (length p)
     (λ k m. let h = days_rise params first 0 k (omega arith) in other_day (day_number params first k) j (is_lost p k) (λ e. omega arith))

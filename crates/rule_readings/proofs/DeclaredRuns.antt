@@ -16,7 +16,7 @@ use Rattle.duty_core.specs.declared.mark.Mark.TheVariants.{SplitRest}
 use Rattle.duty_core.specs.Marks.{IsMinuteOf, IsSplitAt}
 use Rattle.duty_core.specs.RestRun.{IsRun}
 use Rattle.duty_core.specs.DeclaredRest.{IsDeclared, IsLastDeclared}
-use Rattle.duty_core.specs.UniqueLaws.{declared_run}
+use Rattle.duty_core.specs.Laws.UniqueLaws.{declared_run}
 use Rattle.rule_readings.specs.declared.padded.RestRun.{RestRun}
 use Rattle.rule_readings.specs.Padded.{AreRestRuns}
 use Rattle.rule_readings.specs.Found.{DeclaresRun}
@@ -142,7 +142,7 @@ leaves_less full Marked i runs rest d g l undeclared = let n = g.in_range in rec
 pub runs_rise : (p : List Activity) (runs : List RestRun) → AreRestRuns p runs → IsNonDecreasingBy (λ run. run.to) runs
 runs_rise p runs h i j d l m = ends_in_order p runs i j d h l m
 
--- where the search begins: before the first run that ends behind the place
+-- where the search begins: before the first run that ends after the place
 pub leaves_first : (full : ℕ) (Marked : ℕ → Type 0) (i : ℕ) (runs : List RestRun) (rest : ℕ) → rest ≤ length runs → IsPartitionPoint (λ run. leb run.to i ≡ true) (λ run. leb run.to i ≡ false) runs rest →
     LeavesNone full Marked i runs rest
 leaves_first full Marked i runs rest l point = record {

@@ -7,7 +7,7 @@ use Rattle.duty_core.specs.History.{unit_at}
 use Rattle.duty_core.specs.RestRun.{IsRun}
 use Rattle.duty_core.specs.Stretch.{IsRest}
 use Rattle.duty_core.specs.LostMinutes.{rest_before}
-use Rattle.duty_core.specs.LostLaws.{before_rest, before_stops, before_least, before_there}
+use Rattle.duty_core.specs.Laws.LostLaws.{before_rest, before_stops, before_least, before_there}
 
 -- the first unit of duty from a place on
 pub record IsNextDuty (p : List Activity) (b e : ℕ) : Type 0 where

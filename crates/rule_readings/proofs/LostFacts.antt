@@ -12,11 +12,11 @@ use Rattle.duty_core.specs.History.{unit_at}
 use Rattle.duty_core.specs.Stretch.{IsRest}
 use Rattle.duty_core.specs.Counting.{places}
 use Rattle.duty_core.specs.LostMinutes.{rest_before, rest_from, is_lost, lost}
-use Rattle.duty_core.specs.LostLaws.{from_least, from_most, from_rest, lost_from, before_there}
+use Rattle.duty_core.specs.Laws.LostLaws.{from_least, from_most, from_rest, lost_from, before_there}
 use Rattle.rule_readings.specs.CaDays.{BeginsDay}
 use Rattle.rule_readings.specs.Lost.{AreLostCounts}
 
--- # Rest before and behind a place
+-- # Rest before and after a place
 
 pub before_next : (p : List Activity) (i n : ℕ) → n ≡ rest_before p i → cond (rests (unit_at p i)) (n + 1) 0 ≡ rest_before p (i + 1)
 unfolding rest_before

@@ -7,7 +7,7 @@ use Rattle.duty_core.specs.declared.params.Params.{Params}
 use Rattle.duty_core.specs.History.{unit_at}
 use Rattle.duty_core.specs.Stretch.{HoldsBerth, IsBerth}
 use Rattle.duty_core.specs.DeclaredRest.{IsSplitRest, IsDeclared, IsLastDeclared, ArePairedAt}
-use Rattle.duty_core.specs.UniqueLaws.{declared_run, last_declared_start, last_declared_end}
+use Rattle.duty_core.specs.Laws.UniqueLaws.{declared_run, last_declared_start, last_declared_end}
 use Rattle.rule_readings.specs.declared.padded.RestRun.{RestRun}
 use Rattle.rule_readings.specs.Padded.{AreRestRuns}
 use Rattle.rule_readings.specs.Found.{DeclaresRun}

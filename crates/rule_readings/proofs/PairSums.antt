@@ -1,11 +1,11 @@
--- Split rests, and the first declared rest behind each.
+-- Split rests, and the first declared rest after each.
 use Rattle.std.proofs.Common.{◌≡◌, ℕ, ◌+◌, ◌-◌, ◌<◌, ◌≤◌, true, false, List, sym, ◌∙◌, subst, arith, inl, inr}
 use Rattle.std.proofs.lemmas.Bool.{cases_lt}
 use Rattle.duty_core.specs.declared.activity.Activity.{Activity}
 use Rattle.duty_core.specs.RestRun.{IsRun}
 use Rattle.duty_core.specs.DeclaredRest.{IsSplitRest, IsDeclared, IsNextDeclared}
-use Rattle.duty_core.specs.FrontLaws.{run_end}
-use Rattle.duty_core.specs.UniqueLaws.{declared_run, run_start}
+use Rattle.duty_core.specs.Laws.FrontLaws.{run_end}
+use Rattle.duty_core.specs.Laws.UniqueLaws.{declared_run, run_start}
 use Rattle.rule_readings.specs.Found.{IsFirstDeclared}
 use Rattle.rule_readings.specs.Values.{IsPairSum}
 
@@ -18,13 +18,13 @@ pub record AreOne (a b c d : ℕ) : Type 0 where
   pub from : a ≡ c
   pub to : b ≡ d
 
--- the first declared rest behind a place at which a split rest begins is that rest
+-- the first declared rest after a place at which a split rest begins is that rest
 pub first_is_split : (full : ℕ) (p : List Activity) (Marked : ℕ → Type 0) (i to a b : ℕ) → IsSplitRest full p Marked i to → IsFirstDeclared full p Marked i a b → AreOne a b i to
 first_is_split full p Marked i to a b s f =
     let some = s.run.some in
     let l = f.first i to (inr s) some in
     let r = declared_run full p Marked a b f.declared in
-    let o = f.behind in
+    let o = f.thereafter in
     let e : b ≡ to = elim (cases_lt b to) [ inl m ↦ absurd (none_inside r s.run (omega arith) m) | inr m ↦ omega arith ] in
     record { from = run_start p a i to (subst (λ n. IsRun p a n) e r) s.run; to = e }
 
@@ -35,7 +35,7 @@ next_is_first full p Marked i to c d n =
     let before = n.last.before in
     record {
       declared = n.next;
-      behind = omega arith;
+      thereafter = omega arith;
       first = λ a b x l. elim (cases_lt b d) [
         | inl m ↦ elim (cases_lt b c) [
           | inl o ↦ (let z = n.last.last a b x (omega arith) in absurd (omega arith))
@@ -53,15 +53,15 @@ first_is_next full p Marked i to c d s f =
       next = f.declared;
       last = record {
         declared = inr s;
-        before = elim (cases_lt c to) [ inl m ↦ absurd (none_inside s.run r (omega arith) f.behind) | inr m ↦ m ];
+        before = elim (cases_lt c to) [ inl m ↦ absurd (none_inside s.run r (omega arith) f.thereafter) | inr m ↦ m ];
         last = λ a b x l. elim (cases_lt to b) [ inl m ↦ (let z = f.first a b x m in absurd (omega arith)) | inr m ↦ m ];
       };
     }
 
 first_once : (full : ℕ) (p : List Activity) (Marked : ℕ → Type 0) (i a b c d : ℕ) → IsFirstDeclared full p Marked i a b → IsFirstDeclared full p Marked i c d → AreOne a b c d
 first_once full p Marked i a b c d f g =
-    let x = f.first c d g.declared g.behind in
-    let y = g.first a b f.declared f.behind in
+    let x = f.first c d g.declared g.thereafter in
+    let y = g.first a b f.declared f.thereafter in
     let e : b ≡ d = omega arith in
     record { from = run_start p a c d (subst (λ n. IsRun p a n) e (declared_run full p Marked a b f.declared)) (declared_run full p Marked c d g.declared); to = e }
 

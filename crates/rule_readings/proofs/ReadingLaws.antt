@@ -14,7 +14,7 @@ use Rattle.duty_core.specs.Stretch.{HoldsRest}
 use Rattle.duty_core.specs.Counting.{IsLastEnd}
 use Rattle.duty_core.specs.Day.{day_number}
 use Rattle.duty_core.specs.LostMinutes.{lost}
-use Rattle.duty_core.specs.FrontLaws.{day_has_number}
+use Rattle.duty_core.specs.Laws.FrontLaws.{day_has_number}
 use Rattle.duty_core.specs.RuleBooks.{Keeps}
 use Rattle.rule_readings.specs.declared.best.Order.{Order}
 use Rattle.rule_readings.specs.declared.best.Order.TheVariants.{Greatest, Least}

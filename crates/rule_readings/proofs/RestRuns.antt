@@ -8,8 +8,8 @@ use Rattle.duty_core.specs.declared.activity.Activity.{Activity}
 use Rattle.duty_core.specs.Activity.{rests}
 use Rattle.duty_core.specs.History.{unit_at}
 use Rattle.duty_core.specs.RestRun.{IsRun}
-use Rattle.duty_core.specs.RunLaws.{run_inside}
-use Rattle.duty_core.specs.UniqueLaws.{run_start}
+use Rattle.duty_core.specs.Laws.RunLaws.{run_inside}
+use Rattle.duty_core.specs.Laws.UniqueLaws.{run_start}
 use Rattle.rule_readings.specs.declared.padded.RestRun.{RestRun}
 use Rattle.rule_readings.specs.Padded.{AreRestRuns}
 
@@ -52,7 +52,7 @@ runs_rest p i from runs r h = record {
   before = h.before;
 }
 
--- a unit of duty behind duty
+-- a unit of duty after duty
 pub runs_duty : (p : List Activity) (i from : ℕ) (runs : List RestRun) → rests (unit_at p i) ≡ false → i ≤ from → AreRunsBefore p i from runs → AreRunsBefore p (i + 1) (i + 1) runs
 runs_duty p i from runs d e h = let t = h.there in record {
   there = omega arith;

@@ -12,8 +12,8 @@ use Rattle.duty_core.specs.declared.rule.Rule.TheVariants.{UsWindow14, UsDrive11
 use Rattle.duty_core.specs.declared.limits.TheConstants.{US_FULL_REST, US_BREAK, US_RESTART, US_SPLIT_LEAST, US_PAIR_LEAST, US_PAIR_BERTH}
 use Rattle.duty_core.specs.Activity.{drives}
 use Rattle.duty_core.specs.History.{unit_at, between}
-use Rattle.duty_core.specs.HistoryLaws.{unit_at-past}
-use Rattle.duty_core.specs.CountLaws.{count_more, count_none}
+use Rattle.duty_core.specs.Laws.HistoryLaws.{unit_at-past}
+use Rattle.duty_core.specs.Laws.CountLaws.{count_more, count_none}
 use Rattle.duty_core.specs.Counting.{driving, duty}
 use Rattle.duty_core.specs.Day.{day_number}
 use Rattle.duty_core.specs.Marks.{IsSplitAt}
@@ -21,7 +21,7 @@ use Rattle.duty_core.specs.Base.{elapsed}
 use Rattle.duty_core.specs.DeclaredRest.{ArePairedAt}
 use Rattle.duty_core.specs.UsRules.{IsBreak, IsLastBreak, IsUsSplit, MeetsUsPair}
 use Rattle.duty_core.specs.RuleBooks.{KeepsPadded, week_days}
-use Rattle.duty_core.specs.UniqueLaws.{base_unique, omitted_unique, last_break_unique, days_base_unique}
+use Rattle.duty_core.specs.Laws.UniqueLaws.{base_unique, omitted_unique, last_break_unique, days_base_unique}
 use Rattle.rule_readings.specs.declared.pairs.PairTerms.{PairTerms}
 use Rattle.rule_readings.specs.declared.pairs.PairBerth.TheVariants.{InEither}
 use Rattle.rule_readings.specs.Pairs.{IsPair, NamesSplit}
@@ -59,13 +59,13 @@ break_counted p to n l e =
       (λ h. e ∙ (sym same ∙ counted_none drives p i US_BREAK refl (λ k a b. h.still k a (omega arith)))),
     )
 
--- no break ended behind place `to`, up to place i
+-- no break ended after place `to`, up to place i
 pub record NoneBehind (p : List Activity) (i to : ℕ) : Type 0 where
   pub before : to ≤ i
   pub none : (b : ℕ) → IsBreak p b → b ≤ i → b ≤ to
 
-pub none_behind : (p : List Activity) (i : ℕ) → NoneBehind p i i
-none_behind p i = record { before = omega arith; none = λ b h l. l }
+pub none_after : (p : List Activity) (i : ℕ) → NoneBehind p i i
+none_after p i = record { before = omega arith; none = λ b h l. l }
 
 pub behind_less : (p : List Activity) (i to : ℕ) → NoneBehind p i to → (IsBreak p to → ⊥) → 1 ≤ to → NoneBehind p i (to - 1)
 behind_less p i to h no_break l = let x = h.before in record {
@@ -73,16 +73,16 @@ behind_less p i to h no_break l = let x = h.before in record {
   none = λ b g m. let y = h.none b g m in elim (cases_eq b to) [ inl q ↦ absurd (no_break (subst (IsBreak p) q g)) | inr q ↦ omega arith ];
 }
 
-pub behind_all : (p : List Activity) (i to : ℕ) → NoneBehind p i to → (IsBreak p to → ⊥) → (1 ≤ to → ⊥) → (b : ℕ) → IsBreak p b → b ≤ i → ⊥
-behind_all p i to h no_break l b g m =
+pub after_all : (p : List Activity) (i to : ℕ) → NoneBehind p i to → (IsBreak p to → ⊥) → (1 ≤ to → ⊥) → (b : ℕ) → IsBreak p b → b ≤ i → ⊥
+after_all p i to h no_break l b g m =
     let y = h.none b g m in
     elim (cases_lt 0 to) [
       | inl o ↦ l (omega arith)
       | inr o ↦ (let q : b ≡ to = omega arith in no_break (subst (IsBreak p) q g))
     ]
 
-pub behind_found : (p : List Activity) (i to : ℕ) → NoneBehind p i to → IsBreak p to → IsLastBreak p i to
-behind_found p i to h g = record { ends = g; before = h.before; last = h.none }
+pub after_found : (p : List Activity) (i to : ℕ) → NoneBehind p i to → IsBreak p to → IsLastBreak p i to
+after_found p i to h g = record { ends = g; before = h.before; last = h.none }
 
 -- # A count is made at a unit of driving, and there is one
 

@@ -16,10 +16,10 @@ use Rattle.duty_core.specs.Params.{unit_minutes}
 use Rattle.duty_core.specs.History.{unit_at, pad_days, pad_units, padding, padded}
 use Rattle.duty_core.specs.Day.{day_number}
 use Rattle.duty_core.specs.DeclaredRest.{IsSplitRest}
-use Rattle.duty_core.specs.ExistLaws.{padding_rest}
-use Rattle.duty_core.specs.HistoryLaws.{unit_at-behind}
+use Rattle.duty_core.specs.Laws.ExistLaws.{padding_rest}
+use Rattle.duty_core.specs.Laws.HistoryLaws.{unit_at-after}
 use Rattle.duty_core.specs.Marks.{IsMinuteOf, IsSplitAt, IsDeferred}
-use Rattle.duty_core.specs.PrefixLaws.{no_duty}
+use Rattle.duty_core.specs.Laws.PrefixLaws.{no_duty}
 use Rattle.duty_core.specs.RestRun.{IsRun}
 use Rattle.rule_readings.specs.declared.reading.Reading.{Reading}
 use Rattle.rule_readings.specs.declared.scope.Span.{Span}
@@ -72,7 +72,7 @@ one_value s p marks Au14dNights i n m h g = nights_once s.planned _ _ s.first p 
 
 -- # Where values are
 
--- the history with rest behind it is at least as long as what it ends with
+-- the history with rest after it is at least as long as what it ends with
 long_enough : (params : Params) (h : List Activity) → pad_units params + length h ≤ length (padded params h)
 long_enough params h = omega (arith, length-append (padding params ++ h) (padding params), length-append (padding params) h, length-replicate (pad_units params) Off)
 
@@ -94,7 +94,7 @@ run_before params h a b r = elim (cases_lt b (pad_units params + length h)) [
   | inl l ↦ l
   | inr l ↦ absurd (
       let m : length (padding params ++ h) ≤ b = omega (arith, length-append (padding params) h, length-replicate (pad_units params) Off) in
-      let z : true ≡ false = sym (ap rests (unit_at-behind (padding params ++ h) (pad_units params) b m)) ∙ r.ended in cc)
+      let z : true ≡ false = sym (ap rests (unit_at-after (padding params ++ h) (pad_units params) b m)) ∙ r.ended in cc)
 ]
 
 pair_inside : (params : Params) (h : List Activity) (full : ℕ) (Marked : ℕ → Type 0) (i n : ℕ) → IsPairSum full (padded params h) Marked i n → i < pad_units params + length h

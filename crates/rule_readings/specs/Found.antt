@@ -13,10 +13,10 @@ abbrev pub IsLastFound : ℕ → List Activity → (ℕ → Type 0) → ℕ → 
 IsLastFound full p Marked i found =
     MatchOption found ((a b : ℕ) → IsDeclared full p Marked a b → b ≤ i → ⊥) (λ run. IsLastDeclared full p Marked i run.from run.to)
 
--- the first declared rest that ends behind place i
+-- the first declared rest that ends after place i
 pub record IsFirstDeclared (full : ℕ) (p : List Activity) (Marked : ℕ → Type 0) (i from to : ℕ) : Type 0 where
   pub declared : IsDeclared full p Marked from to
-  pub behind : i < to
+  pub thereafter : i < to
   pub first : (a b : ℕ) → IsDeclared full p Marked a b → i < b → to ≤ b
 
 -- where there is one

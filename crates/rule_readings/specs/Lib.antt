@@ -15,7 +15,7 @@ pub mod AuCounts
 pub mod AuNightCounts
 pub mod AuKeeps
 pub mod Broken
-pub mod BrokenLaws
 pub mod Best
 pub mod Values
 pub mod Readings
+pub mod Laws

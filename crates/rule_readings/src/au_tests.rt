@@ -281,7 +281,7 @@ enum Night {
     Free,
 }
 
-/// Puts the day behind the history.
+/// Puts the day after the history.
 fn push_night(history: &mut Timeline, night: Night) -> Result<(), Fail> {
     let rest = match night {
         Night::Worked => 47,

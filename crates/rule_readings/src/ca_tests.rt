@@ -161,7 +161,7 @@ fn broken(
     Ok(found)
 }
 
-/// The place of the first row whose history, behind these days, breaks other rules than its own.
+/// The place of the first row whose history, after these days, breaks other rules than its own.
 fn first_wrong_after(
     alloc: Global,
     way: Way,
@@ -240,7 +240,7 @@ fn drives_within_fourteen_hours_of_duty(rt: HostRuntime) -> Result<(), Fail> {
             parts: &[(Off, 960), (Wait, 840), (Drive, 1)],
             broken: &[Rule::CaShift14],
         },
-        // Work behind the last driving is no matter of these rules.
+        // Work after the last driving is no matter of these rules.
         Row {
             marks: &[],
             parts: &[(Off, 960), (Drive, 1), (Wait, 1_000)],

@@ -104,7 +104,7 @@ pub(crate) fn last_declared(
     None
 }
 
-/// The first declared rest that ends behind place `i`. `None` where there is none.
+/// The first declared rest that ends after place `i`. `None` where there is none.
 pub(crate) fn next_declared(
     padded: &Padded,
     params: Params,

@@ -1,4 +1,4 @@
-//! A history as the rules see it: long rest before and behind.
+//! A history as the rules see it: long rest before and after.
 ghost use Rattle.std.specs.Prelude.{◌≡◌, ℕ, ◌+◌, ◌*◌, ◌≤◌, ◌++◌, length, replicate, IfOk, OnOk, OnErr};
 ghost use Rattle.duty_core.specs.declared.activity.Activity.TheVariants.{Off};
 ghost use Rattle.duty_core.specs.History.{pad_units, padded, unit_at};
@@ -24,7 +24,7 @@ pub(crate) struct RestRun {
     pub to: u32,
 }
 
-/// A history as the rules see it: long rest before and behind. Its units, the driving and the duty
+/// A history as the rules see it: long rest before and after. Its units, the driving and the duty
 /// before each place, and the rest runs that have ended are at hand.
 #[derive(Drop)]
 pub(crate) struct Padded {
@@ -113,7 +113,7 @@ impl Padded {
     }
 }
 
-/// How much rest stands before and behind a history of the book, in units.
+/// How much rest stands before and after a history of the book, in units.
 pub(crate) fn padding_of(params: Params) -> u32
     ensures value { result ≡ pad_units params }
     ensures bound { 2 * result + LONGEST_HISTORY ≤ LONGEST_PADDED }
@@ -121,7 +121,7 @@ pub(crate) fn padding_of(params: Params) -> u32
     PADDING_DAYS * (DAY_MINUTES / unit_of(params))
 }
 
-/// Puts so many units of rest behind the others.
+/// Puts so many units of rest after the others.
 fn push_rest(units: &mut Vec<Activity>, count: u32) -> Result<(), NoMemory>
     ensures { OnOk result (units.new.items ≡ units.old.items ++ replicate count Off) }
 {
@@ -131,7 +131,7 @@ fn push_rest(units: &mut Vec<Activity>, count: u32) -> Result<(), NoMemory>
     Ok(())
 }
 
-/// Puts the units of the history behind the others.
+/// Puts the units of the history after the others.
 fn push_history(units: &mut Vec<Activity>, history: &Timeline) -> Result<(), NoMemory>
     ensures { OnOk result (units.new.items ≡ units.old.items ++ history.now) }
 {

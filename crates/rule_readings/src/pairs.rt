@@ -1,4 +1,4 @@
-//! Pairs of rests: a split rest, and the declared rest behind it.
+//! Pairs of rests: a split rest, and the declared rest after it.
 ghost use Rattle.std.specs.Prelude.{◌≡◌, ℕ, ◌≤◌, ◌↔◌, IsTrue, length};
 ghost use Rattle.duty_core.specs.declared.activity.Activity.TheVariants.{Berth};
 ghost use Rattle.duty_core.specs.declared.limits.TheConstants.{MINUTE_LIMIT};

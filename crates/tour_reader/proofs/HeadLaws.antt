@@ -20,7 +20,7 @@ use Rattle.tour_reader.specs.Gives.{◌>>=◌, good}
 use Rattle.tour_reader.specs.Values.{number_of, whole_of, text_of, within}
 use Rattle.civil_minutes.specs.TimeOf.{time_of}
 use Rattle.tour_reader.specs.Times.{pair_of, minutes_of, clock_of}
-use Rattle.civil_minutes.specs.TimeOfLaws.{parts, lt_from}
+use Rattle.civil_minutes.specs.Laws.TimeOfLaws.{parts, lt_from}
 use Rattle.tour_reader.specs.Head.{book_of, grids_of_book, unit_of_book, one_of, grid_of, on_unit, start_of, berth_of, day_start_of, way_named, us_params, canada_params, params_of, head_in, head_of}
 use Rattle.tour_reader.proofs.Holds.{any_some, if_holds, guard_holds, then_holds, within_holds, any_ok, good_holds, bind_holds}
 

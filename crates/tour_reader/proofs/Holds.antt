@@ -4,7 +4,7 @@ use Rattle.tour_reader.specs.declared.field.Field.{Field}
 use Rattle.tour_reader.specs.declared.fault.TourFault.{TourFault}
 use Rattle.tour_reader.specs.declared.fault.TourFault.TheVariants.{Memory}
 use Rattle.tour_reader.specs.Gives.{◌>>=◌, good, Gives}
-use Rattle.civil_minutes.specs.TimeOfLaws.{parts, le_from}
+use Rattle.civil_minutes.specs.Laws.TimeOfLaws.{parts, le_from}
 use Rattle.tour_reader.specs.Values.{within}
 
 -- ---- options

@@ -7,3 +7,4 @@ pub mod Holds
 pub mod HeadLaws
 pub mod StopLaws
 pub mod TourLaws
+pub mod TimeLaws

@@ -16,7 +16,7 @@ use Rattle.tour_reader.specs.declared.fault.TourFault.{TourFault}
 use Rattle.tour_reader.specs.declared.fault.TourFault.TheVariants.{BadValue, NoStops, TooManyStops}
 use Rattle.tour_reader.specs.Fields.{with_fields}
 use Rattle.tour_reader.specs.Gives.{◌>>=◌, good}
-use Rattle.civil_minutes.specs.TimeOfLaws.{parts, le_from}
+use Rattle.civil_minutes.specs.Laws.TimeOfLaws.{parts, le_from}
 use Rattle.tour_reader.specs.Values.{whole_of, text_of, items_of}
 use Rattle.tour_reader.specs.Written.{is_plain, is_name, named, name_at, span_of, and_others, spans_of, few_spans, spans_at, written_fields, written_stop, written_stops, few_stops, stops_of}
 use Rattle.tour_reader.specs.Checks.{stop_names, first_repeated, with_repeated, distinct, closes_late, ends_late, first_late, with_late, in_time}

@@ -11,7 +11,7 @@ use Rattle.tour_reader.specs.declared.head.Head.{Head}
 use Rattle.tour_reader.specs.declared.written.Span.{Span}
 use Rattle.tour_reader.specs.declared.written.WrittenStop.{WrittenStop}
 use Rattle.tour_reader.specs.Gives.{◌>>=◌}
-use Rattle.civil_minutes.specs.TimeOfLaws.{parts, le_from}
+use Rattle.civil_minutes.specs.Laws.TimeOfLaws.{parts, le_from}
 use Rattle.tour_reader.specs.Head.{head_of}
 use Rattle.tour_reader.specs.Written.{stops_of}
 use Rattle.tour_reader.specs.Checks.{distinct, in_time}

@@ -7,3 +7,4 @@ pub mod Written
 pub mod Checks
 pub mod Rounding
 pub mod Tour
+pub mod WrittenTimes

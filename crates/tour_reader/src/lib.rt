@@ -7,6 +7,7 @@ mod fault;
 mod field;
 mod form;
 mod head;
+mod laws;
 mod read;
 mod rounding;
 mod stops;
@@ -17,6 +18,7 @@ mod written;
 pub use fault::TourFault;
 pub use field::Field;
 pub use form::TOUR_LIMIT;
+pub use laws::times_are_those_written;
 pub use read::read_tour;
 
 #[cfg(test)]

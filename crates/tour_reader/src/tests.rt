@@ -212,23 +212,41 @@ fn tells_ends_past_the_horizon(rt: HostRuntime) -> Result<(), Fail> {
     Ok(())
 }
 
+/// The form of a tour whose book is so many arrays, one within another.
+fn nested(alloc: Global, depth: usize) -> Result<String, AllocError> {
+    let mut form = String::from_str(alloc, "{\"book\":")?;
+    for _ in 0..depth {
+        form.push_str("[")?;
+    }
+    for _ in 0..depth {
+        form.push_str("]")?;
+    }
+    form.push_str("}")?;
+    Ok(form)
+}
+
 #[test]
 fn refuses_other_bytes(rt: HostRuntime) -> Result<(), Fail> {
     let good = form(rt.alloc(), US, A)?;
     let marked = format!(in rt.alloc(); "\u{feff}{good}")?;
-    let nested = [b'['; 200];
+    // `serde_json` reads no value so deep. Of fewer arrays the tour is refused for its book.
+    let deep = nested(rt.alloc(), 200)?;
     let table: [&[u8]; 6] = [
         b"",
         b"[]",
         b"{} x",
         b"{\"book\":\"\xff\"}",
         marked.as_bytes(),
-        &nested,
+        deep.as_str().as_bytes(),
     ];
     for bytes in table {
         let answer = read_tour(rt.alloc(), bytes);
         assert!(rt; matches!(answer, Err(TourFault::NotJson)), "at {bytes:?}");
     }
+    let shallow = nested(rt.alloc(), 100)?;
+    let answer = read_tour(rt.alloc(), shallow.as_str().as_bytes());
+    let book = Field::Book;
+    assert!(rt; matches!(answer, Err(TourFault::BadValue { field, stop: None }) if field == book));
     let long = vec![in rt.alloc(); b' '; TOUR_LIMIT + 1]?;
     let answer = read_tour(rt.alloc(), &long);
     assert!(rt; matches!(answer, Err(TourFault::TooBig)));

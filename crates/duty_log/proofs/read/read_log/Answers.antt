@@ -1,5 +1,5 @@
 use Rattle.std.proofs.Common.{Ok, Err}
-use Rattle.duty_log.specs.LogLaws.{only_answer}
+use Rattle.duty_log.specs.Laws.LogLaws.{only_answer}
 use Rattle.duty_log.proofs.LoopFacts.{as_records, err_follows, ok_follows}
 use Rattle.duty_log.proofs.read.read_log.Goals as goal
 

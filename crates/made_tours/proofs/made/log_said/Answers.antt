@@ -4,7 +4,7 @@ use Rattle.duty_core.specs.declared.params.Params.{Params}
 use Rattle.duty_core.specs.declared.params.Params.TheVariants.{UsProperty}
 use Rattle.duty_log.specs.declared.fault.LogFault.{LogFault}
 use Rattle.duty_log.specs.Log.{ReadsLog}
-use Rattle.duty_log.specs.LogLaws.{one_log}
+use Rattle.duty_log.specs.Laws.LogLaws.{one_log}
 use Rattle.report_text.specs.Made.{log_made}
 use Rattle.made_tours.specs.Drawn.{log_drawn}
 use Rattle.made_tours.proofs.LogTexts.{log_says}

@@ -1,7 +1,7 @@
 use Rattle.std.proofs.Common.{take, sym, subst, arith}
 use Rattle.text_parts.specs.Parts.{Puts}
 use Rattle.report_text.specs.Report.{mark_line, mark_lines}
-use Rattle.text_parts.specs.PartLaws.{puts_on}
+use Rattle.text_parts.specs.Laws.PartLaws.{puts_on}
 use Rattle.report_text.proofs.RunLines.{mark_lines_more}
 use Rattle.report_text.proofs.marks.push_marks.Goals as goal
 

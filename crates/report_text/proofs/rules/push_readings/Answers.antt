@@ -1,6 +1,6 @@
 use Rattle.std.proofs.Common.{take, sym, subst, arith}
 use Rattle.text_parts.specs.Parts.{Puts}
-use Rattle.text_parts.specs.PartLaws.{puts_on}
+use Rattle.text_parts.specs.Laws.PartLaws.{puts_on}
 use Rattle.report_text.specs.Report.{reading_line, reading_lines}
 use Rattle.report_text.proofs.RunLines.{reading_lines_more}
 use Rattle.report_text.proofs.rules.push_readings.Goals as goal

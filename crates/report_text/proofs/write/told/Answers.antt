@@ -4,7 +4,7 @@ use Rattle.duty_core.specs.Params.{unit_minutes, BeginsUnit}
 use Rattle.rule_readings.specs.Readings.{AreReadings}
 use Rattle.log_graph.specs.Graph.{graph_lines}
 use Rattle.text_parts.specs.Parts.{Puts}
-use Rattle.text_parts.specs.PartLaws.{puts_on}
+use Rattle.text_parts.specs.Laws.PartLaws.{puts_on}
 use Rattle.tour_model.specs.Schedule.{history_of, log_start}
 use Rattle.report_text.specs.Report.{doings, runs_of, run_lines, head_line, mark_lines, reading_lines}
 use Rattle.report_text.proofs.Placed.{placed, timed_later}
@@ -32,7 +32,7 @@ readings-requires-clause-ends c =
 
 pub readings-requires-clause-planned : goal.readings-requires-clause-planned
 readings-requires-clause-planned c =
-    rw (c.len-planned_from.ensures.value, c.in_ok-history.ensures) (placed c.args.tour.now c.requires.tour c.args.log.now c.args.steps.now c.requires.short c.requires.steps).behind
+    rw (c.len-planned_from.ensures.value, c.in_ok-history.ensures) (placed c.args.tour.now c.requires.tour c.args.log.now c.args.steps.now c.requires.short c.requires.steps).thereafter
 
 pub push_marks-requires-clause-marks : goal.push_marks-requires-clause-marks
 push_marks-requires-clause-marks c =

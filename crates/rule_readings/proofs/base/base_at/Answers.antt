@@ -1,6 +1,6 @@
 use Rattle.std.proofs.Common.{arith}
 use Rattle.duty_core.specs.Marks.{IsSplitAt}
-use Rattle.duty_core.specs.UniqueLaws.{declared_run}
+use Rattle.duty_core.specs.Laws.UniqueLaws.{declared_run}
 use Rattle.rule_readings.proofs.BaseLaws.{none_found, none_found_before}
 use Rattle.rule_readings.proofs.base.base_at.Goals as goal
 

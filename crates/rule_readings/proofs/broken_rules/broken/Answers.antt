@@ -5,7 +5,7 @@ use Rattle.duty_core.specs.declared.rule.Rule.{Rule}
 use Rattle.duty_core.specs.declared.rule.Rule.TheVariants.{UsWindow14}
 use Rattle.duty_core.specs.RuleBooks.{Keeps, KeepsPadded}
 use Rattle.rule_readings.specs.Broken.{AreBroken}
-use Rattle.rule_readings.specs.BrokenLaws.{broken_kept, broken_more}
+use Rattle.rule_readings.specs.Laws.BrokenLaws.{broken_kept, broken_more}
 use Rattle.rule_readings.proofs.broken_rules.broken.Goals as goal
 use Rattle.rule_readings.proofs.broken_rules.broken.Goals.{then-not-branch+in_ok-push, else-not-branch}
 

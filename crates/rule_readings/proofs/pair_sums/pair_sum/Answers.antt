@@ -30,7 +30,7 @@ returns-in_err-next c =
     let e = first_is_split c.args.full p Marked c.args.i h.to one.from one.to h.split c.in_ok-one.ensures in
     let y = e.to in
     let f = next_is_first c.args.full p Marked c.args.i h.to h.from_next h.to_next h.next in
-    let b = f.behind in
+    let b = f.thereafter in
     c.in_err-next.ensures h.from_next h.to_next f.declared (omega arith))
 
 pub returns : goal.returns

@@ -1,8 +1,8 @@
 use Rattle.std.proofs.Common.{refl, arith}
 use Rattle.std.proofs.lemmas.Bool.{le-leb}
 use Rattle.duty_core.specs.Marks.{IsSplitAt}
-use Rattle.duty_core.specs.RunLaws.{run_inside}
-use Rattle.duty_core.specs.UniqueLaws.{declared_run}
+use Rattle.duty_core.specs.Laws.RunLaws.{run_inside}
+use Rattle.duty_core.specs.Laws.UniqueLaws.{declared_run}
 use Rattle.rule_readings.specs.Pairs.{IsPair}
 use Rattle.rule_readings.proofs.DeclaredRuns.{declared_of}
 use Rattle.rule_readings.proofs.PairRuns.{first_paired, full_paired, split_paired, paired_split}

@@ -1,4 +1,4 @@
-use Rattle.duty_core.specs.HistoryLaws.{us_begins_unit}
+use Rattle.duty_core.specs.Laws.HistoryLaws.{us_begins_unit}
 use Rattle.rule_readings.proofs.tests.rules_of.Goals as goal
 
 pub broken-requires-clause-begins : goal.broken-requires-clause-begins

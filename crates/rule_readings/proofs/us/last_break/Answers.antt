@@ -1,14 +1,14 @@
 use Rattle.std.proofs.Common.{◌≡◌, ℕ, ◌-◌, ◌≤◌, MatchOption, subst, sym}
 use Rattle.std.proofs.lemmas.Bool.{iff_false}
 use Rattle.duty_core.specs.UsRules.{IsBreak, IsLastBreak}
-use Rattle.rule_readings.proofs.UsPlaces.{NoneBehind, behind_less, behind_all}
+use Rattle.rule_readings.proofs.UsPlaces.{NoneBehind, behind_less, after_all}
 use Rattle.rule_readings.proofs.us.last_break.Goals as goal
 
 pub returns-in_err-to : goal.returns-in_err-to
 returns-in_err-to c =
     let p = c.args.padded.now in
     let i = c.args.i in
-    let none = behind_all p i c.loop-to.to c.loop-to.invariant (iff_false c.is_break.ensures c.loop-to-test.true) (λ l. c.in_err-to.ensures l) in
+    let none = after_all p i c.loop-to.to c.loop-to.invariant (iff_false c.is_break.ensures c.loop-to-test.true) (λ l. c.in_err-to.ensures l) in
     subst (λ found. MatchOption found ((to : ℕ) → IsBreak p to → to ≤ i → ⊥) (λ to. IsLastBreak p i to)) (sym c.from_residual.ensures) none
 
 pub loop-to-preserved : goal.loop-to-preserved

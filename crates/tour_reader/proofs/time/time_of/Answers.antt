@@ -1,5 +1,5 @@
 use Rattle.std.proofs.Common.{rules}
-use Rattle.civil_minutes.specs.TimeOfLaws.{read_time}
+use Rattle.civil_minutes.specs.Laws.TimeOfLaws.{read_time}
 use Rattle.tour_reader.proofs.time.time_of.Goals as goal
 
 pub returns : goal.returns

@@ -9,7 +9,7 @@ use Rattle.duty_log.specs.declared.fault.LogFault.{LogFault}
 use Rattle.duty_log.specs.declared.fault.LogFault.TheVariants.{Memory}
 use Rattle.duty_log.specs.declared.row.Row.{Row}
 use Rattle.duty_log.specs.declared.row.Span.{Span}
-use Rattle.duty_log.specs.Log.{at_start, behind, Answers, IsTimeOf, Place, ReadsFields, ReadsLog, ReadsRecords, ReadsRow, ReadsRows}
+use Rattle.duty_log.specs.Log.{at_start, thereafter, Answers, IsTimeOf, Place, ReadsFields, ReadsLog, ReadsRecords, ReadsRow, ReadsRows}
 
 -- a text is of one time at most
 one_time : (text : List ℕ) (a b : Option ℕ) → IsTimeOf text a → IsTimeOf text b → a ≡ b
@@ -35,12 +35,12 @@ one_rows : (params : Params) (start : ℕ) (place : Place) (rows : List (List (L
 one_rows params start place [] a b h k = h ∙ sym k
 one_rows params start place (first ∷ later) a b h k =
     let same : h.0 ≡ k.0 = one_row params (place.rows + 1) place.span first h.0 k.0 h.1 k.1 in
-    go_on h.0 h.2 (rw (← same) at k.2) (λ row. one_rows params start (behind params place row) later a b)
+    go_on h.0 h.2 (rw (← same) at k.2) (λ row. one_rows params start (thereafter params place row) later a b)
   where
     go_on : (row : Result Row LogFault)
-        → MatchResult row (λ row. ReadsRows params start (behind params place row) later a) (λ fault. a ≡ Err fault)
-        → MatchResult row (λ row. ReadsRows params start (behind params place row) later b) (λ fault. b ≡ Err fault)
-        → ((row : Row) → ReadsRows params start (behind params place row) later a → ReadsRows params start (behind params place row) later b → a ≡ b)
+        → MatchResult row (λ row. ReadsRows params start (thereafter params place row) later a) (λ fault. a ≡ Err fault)
+        → MatchResult row (λ row. ReadsRows params start (thereafter params place row) later b) (λ fault. b ≡ Err fault)
+        → ((row : Row) → ReadsRows params start (thereafter params place row) later a → ReadsRows params start (thereafter params place row) later b → a ≡ b)
         → a ≡ b
     go_on (Ok row) x y more = more row x y
     go_on (Err fault) x y more = x ∙ sym y

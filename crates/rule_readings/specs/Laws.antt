@@ -1,0 +1,2 @@
+-- What follows from the definitions, for the contracts and proofs of this crate and of those above it.
+pub mod BrokenLaws
