@@ -18,7 +18,7 @@ use Rattle.label_search.specs.declared.by_layers.TheConstants.{MOST_BUDGET}
 use Rattle.command_words.specs.declared.command.Command.TheVariants.{Plan, Check, Audit, Graph, Make}
 use Rattle.command_words.specs.declared.command.TheConstants.{BUDGET, MOST_MADE}
 use Rattle.command_words.specs.Calls.{place, number_place, budget_option}
-use Rattle.command_words.specs.Command.{IsNumber, IsSentence}
+use Rattle.command_words.specs.Command.{IsNumber, IsCommandLine}
 use Rattle.command_words.specs.Names.{IsPlainName}
 use Rattle.command_words.proofs.Known.{both}
 use Rattle.command_words.proofs.PlainForms.{Ends, shape, ends_here, ends_after, place_step, plain_no_flag, taken_by, turn_plain, walked_plain, word_by, walk_at}
@@ -86,7 +86,7 @@ two_ends name t l p q =
     (place_step s (holding [] (codes "tour") t) (two_walk t l).held 2 3 l [] (two_walk t l) q refl refl
     (ends_here s (two_walk t l)))
 
-pub audit_form : (t l : Bytes) → IsPlainName t → IsPlainName l → IsSentence (codes "audit" ∷ t ∷ l ∷ []) (Audit t l)
+pub audit_form : (t l : Bytes) → IsPlainName t → IsPlainName l → IsCommandLine (codes "audit" ∷ t ∷ l ∷ []) (Audit t l)
 unfolding clap_on_literals
 audit_form t l p q =
     let e = two_ends (codes "audit") t l p q in
@@ -96,7 +96,7 @@ audit_form t l p q =
       word_by (codes "audit") two words (two_walk t l) (codes "log") l e refl,
     )
 
-pub graph_form : (t l : Bytes) → IsPlainName t → IsPlainName l → IsSentence (codes "graph" ∷ t ∷ l ∷ []) (Graph t l)
+pub graph_form : (t l : Bytes) → IsPlainName t → IsPlainName l → IsCommandLine (codes "graph" ∷ t ∷ l ∷ []) (Graph t l)
 unfolding clap_on_literals
 graph_form t l p q =
     let e = two_ends (codes "graph") t l p q in
@@ -125,7 +125,7 @@ three_ends name t l c p q r =
     (ends_here s (three_walk t l c))))
 
 pub check_form : (t l c : Bytes) → IsPlainName t → IsPlainName l → IsPlainName c
-    → IsSentence (codes "check" ∷ t ∷ l ∷ c ∷ []) (Check t l c)
+    → IsCommandLine (codes "check" ∷ t ∷ l ∷ c ∷ []) (Check t l c)
 unfolding clap_on_literals
 check_form t l c p q r =
     let e = three_ends (codes "check") t l c p q r in
@@ -141,7 +141,7 @@ check_form t l c p q r =
 abbrev four : List Rule
 four = place (codes "tour") ∷ place (codes "log") ∷ place (codes "cert") ∷ budget_option ∷ []
 
--- three names, and what comes behind them
+-- three names, and what comes after them
 names_then : (t l c : Text) (rest : List Text) (w : Walk) → IsPlainName t → IsPlainName l → IsPlainName c
     → Ends (shape (codes "plan") four) (three_walk t l c) rest w
     → Ends (shape (codes "plan") four) (walk_from nothing_held) (t ∷ l ∷ c ∷ rest) w
@@ -153,7 +153,7 @@ names_then t l c rest w p q r e =
     (place_step s (holding (given (codes "tour") t ∷ []) (codes "log") l) (three_walk t l c).held 3 4 c rest w r refl refl e))
 
 pub plan_form : (t l c : Bytes) → IsPlainName t → IsPlainName l → IsPlainName c
-    → IsSentence (codes "plan" ∷ t ∷ l ∷ c ∷ []) (Plan t l c BUDGET)
+    → IsCommandLine (codes "plan" ∷ t ∷ l ∷ c ∷ []) (Plan t l c BUDGET)
 unfolding clap_on_literals
 plan_form t l c p q r =
     let w = three_walk t l c in
@@ -166,7 +166,7 @@ plan_form t l c p q r =
       (codes "200000", word_by (codes "plan") four words w (codes "budget") (codes "200000") e refl, usual_budget),
     )
 
--- the value behind the option
+-- the value after the option
 value_then : (rows : List Row) (i : ℕ) (text : Text) (rest : List Text) (w : Walk) → IsPlainName text
     → Ends (shape (codes "plan") four) (walk_at (holding rows (codes "budget") text) idle i) rest w
     → Ends (shape (codes "plan") four) (walk_at (wanting rows) (option (codes "budget")) i) (text ∷ rest) w
@@ -177,10 +177,10 @@ value_then rows i text rest w plain e =
     ends_after s (walk_at (wanting rows) (option (codes "budget")) i) (walk_at (holding rows (codes "budget") text) idle i) w text rest
     (turn_plain s (wanting rows) (option (codes "budget")) i text bare) (walked_plain s.rules (wanting rows) (option (codes "budget")) i text bare) e
 
-pub budget_behind : (t l c text : Bytes) (n : ℕ) → IsPlainName t → IsPlainName l → IsPlainName c → IsNumber text 1 MOST_BUDGET n
-    → IsSentence (codes "plan" ∷ t ∷ l ∷ c ∷ codes "--budget" ∷ text ∷ []) (Plan t l c n)
+pub budget_after : (t l c text : Bytes) (n : ℕ) → IsPlainName t → IsPlainName l → IsPlainName c → IsNumber text 1 MOST_BUDGET n
+    → IsCommandLine (codes "plan" ∷ t ∷ l ∷ c ∷ codes "--budget" ∷ text ∷ []) (Plan t l c n)
 unfolding clap_on_literals
-budget_behind t l c text n p q r number =
+budget_after t l c text n p q r number =
     let s = shape (codes "plan") four in
     let w = walk_at (holding (three_names t l c) (codes "budget") text) idle 4 in
     let e = names_then t l c (codes "--budget" ∷ text ∷ []) w p q r
@@ -214,7 +214,7 @@ before_ends t l c text n p q r number =
     (place_step s two w.held 3 4 c [] w r refl refl (ends_here s w)))))
 
 pub budget_before : (t l c text : Bytes) (n : ℕ) → IsPlainName t → IsPlainName l → IsPlainName c → IsNumber text 1 MOST_BUDGET n
-    → IsSentence (codes "plan" ∷ codes "--budget" ∷ text ∷ t ∷ l ∷ c ∷ []) (Plan t l c n)
+    → IsCommandLine (codes "plan" ∷ codes "--budget" ∷ text ∷ t ∷ l ∷ c ∷ []) (Plan t l c n)
 unfolding clap_on_literals
 budget_before t l c text n p q r number =
     let w = before_walk t l c text in
@@ -236,7 +236,7 @@ joined_walk t l c text =
     }) idle 4
 
 pub budget_joined : (t l c text : Bytes) (n : ℕ) → IsPlainName t → IsPlainName l → IsPlainName c → IsNumber text 1 MOST_BUDGET n
-    → IsSentence (codes "plan" ∷ t ∷ l ∷ c ∷ (codes "--budget=" ++ text) ∷ []) (Plan t l c n)
+    → IsCommandLine (codes "plan" ∷ t ∷ l ∷ c ∷ (codes "--budget=" ++ text) ∷ []) (Plan t l c n)
 unfolding clap_on_literals
 budget_joined t l c text n p q r number =
     let s = shape (codes "plan") four in
@@ -273,7 +273,7 @@ made_ends text t l n number p q =
     (place_step s two w.held 3 4 l [] w q refl refl (ends_here s w)))
 
 pub make_form : (text t l : Bytes) (n : ℕ) → IsNumber text 0 MOST_MADE n → IsPlainName t → IsPlainName l
-    → IsSentence (codes "make" ∷ text ∷ t ∷ l ∷ []) (Make n t l)
+    → IsCommandLine (codes "make" ∷ text ∷ t ∷ l ∷ []) (Make n t l)
 unfolding clap_on_literals
 make_form text t l n number p q =
     let w = made_walk text t l in
@@ -285,31 +285,31 @@ make_form text t l n number p q =
       word_by (codes "make") made words w (codes "log") l e refl,
     )
 
--- ---- behind two hyphens
+-- ---- after two hyphens
 
-pub plan_behind : (t l c : Bytes) → IsSentence (codes "plan" ∷ codes "--" ∷ t ∷ l ∷ c ∷ []) (Plan t l c BUDGET)
+pub plan_after : (t l c : Bytes) → IsCommandLine (codes "plan" ∷ codes "--" ∷ t ∷ l ∷ c ∷ []) (Plan t l c BUDGET)
 unfolding clap_on_literals
-plan_behind t l c = ((refl, refl), refl, refl, refl, (codes "200000", refl, usual_budget))
+plan_after t l c = ((refl, refl), refl, refl, refl, (codes "200000", refl, usual_budget))
 
-pub check_behind : (t l c : Bytes) → IsSentence (codes "check" ∷ codes "--" ∷ t ∷ l ∷ c ∷ []) (Check t l c)
+pub check_after : (t l c : Bytes) → IsCommandLine (codes "check" ∷ codes "--" ∷ t ∷ l ∷ c ∷ []) (Check t l c)
 unfolding clap_on_literals
-check_behind t l c = ((refl, refl), refl, refl, refl)
+check_after t l c = ((refl, refl), refl, refl, refl)
 
-pub audit_behind : (t l : Bytes) → IsSentence (codes "audit" ∷ codes "--" ∷ t ∷ l ∷ []) (Audit t l)
+pub audit_after : (t l : Bytes) → IsCommandLine (codes "audit" ∷ codes "--" ∷ t ∷ l ∷ []) (Audit t l)
 unfolding clap_on_literals
-audit_behind t l = ((refl, refl), refl, refl)
+audit_after t l = ((refl, refl), refl, refl)
 
-pub graph_behind : (t l : Bytes) → IsSentence (codes "graph" ∷ codes "--" ∷ t ∷ l ∷ []) (Graph t l)
+pub graph_after : (t l : Bytes) → IsCommandLine (codes "graph" ∷ codes "--" ∷ t ∷ l ∷ []) (Graph t l)
 unfolding clap_on_literals
-graph_behind t l = ((refl, refl), refl, refl)
+graph_after t l = ((refl, refl), refl, refl)
 
 abbrev trailing_at : Held → ℕ → Walk
 trailing_at h i = record { held = h; waiting = idle; position = i; is_trailing = true; stopped = None }
 
-made_behind : (text t l : Text) (n : ℕ) → IsNumber text 0 MOST_MADE n
+made_after : (text t l : Text) (n : ℕ) → IsNumber text 0 MOST_MADE n
     → Ends (shape (codes "make") made) (walk_from nothing_held) (codes "--" ∷ text ∷ t ∷ l ∷ []) (trailing_at (made_walk text t l).held 4)
 unfolding clap_on_literals
-made_behind text t l n number =
+made_after text t l n number =
     let s = shape (codes "make") made in
     let w = trailing_at (made_walk text t l).held 4 in
     let start = trailing_at nothing_held 1 in
@@ -320,12 +320,12 @@ made_behind text t l n number =
     (ends_after s one two w t (l ∷ []) (ap (λ ks. or_else ks []) (number_passes text 0 MOST_MADE n number)) refl
     (ends_after s two w w l [] refl refl (ends_here s w))))
 
-pub make_behind : (text t l : Bytes) (n : ℕ) → IsNumber text 0 MOST_MADE n
-    → IsSentence (codes "make" ∷ codes "--" ∷ text ∷ t ∷ l ∷ []) (Make n t l)
+pub make_after : (text t l : Bytes) (n : ℕ) → IsNumber text 0 MOST_MADE n
+    → IsCommandLine (codes "make" ∷ codes "--" ∷ text ∷ t ∷ l ∷ []) (Make n t l)
 unfolding clap_on_literals
-make_behind text t l n number =
+make_after text t l n number =
     let w = trailing_at (made_walk text t l).held 4 in
-    let e = made_behind text t l n number in
+    let e = made_after text t l n number in
     let words = codes "--" ∷ text ∷ t ∷ l ∷ [] in (
       (refl, taken_by (codes "make") made words w e refl refl),
       (text, word_by (codes "make") made words w (codes "number") text e refl, number),

@@ -1,4 +1,4 @@
 pub mod Known
-pub mod Sentences
+pub mod CommandLines
 pub mod PlainForms
 pub mod Forms

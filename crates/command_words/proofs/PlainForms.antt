@@ -81,7 +81,7 @@ ends_after s w after w' t rest none step e = (
   ap (λ ks. or_else ks (walk_fault s [] (walked s.rules [] w t) rest)) none ∙ (ap (λ z. walk_fault s [] z rest) step ∙ e.1),
 )
 
--- the faults behind the walk
+-- the faults after the walk
 abbrev pub end_fault : Shape → Walk → Kinds
 end_fault s w = or_else (settle_fault s.rules s.args_override_self w.held)
     (or_else (defaults_fault (settled s.rules w.held).rows s.rules) (check_fault s (finished s.rules w.held) false))

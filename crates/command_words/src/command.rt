@@ -1,7 +1,7 @@
 //! The commands, and how they are read.
 ghost use Rattle.std.specs.Prelude.{◌≡◌, Some, codes, map, slice_get, IfOk, IfNone, IfSome, MatchOption};
 ghost use Rattle.command_words.specs.Calls.{plan_call, check_call, audit_call, graph_call, make_call};
-ghost use Rattle.command_words.specs.Command.{Takes, IsSentence, IsNoSentence, AreRefused, HasBudget};
+ghost use Rattle.command_words.specs.Command.{Takes, IsCommandLine, IsNoCommandLine, AreRefused, HasBudget};
 
 use crate::calls;
 use crate::matched::{number_of, parse, word_of};
@@ -18,7 +18,7 @@ pub const MOST_MADE: u32 = 999_999;
 /// What the planner is to do, and the names of the files that it is for.
 #[derive(Drop)]
 pub enum Command {
-    /// `plan`: to find a shortest schedule of the tour behind the log, with a search that may keep so
+    /// `plan`: to find a shortest schedule of the tour after the log, with a search that may keep so
     /// many labels, and to put a certificate of it.
     Plan {
         tour: Word,
@@ -26,7 +26,7 @@ pub enum Command {
         cert: Word,
         budget: u32,
     },
-    /// `check`: to say whether the certificate is valid for the tour behind the log.
+    /// `check`: to say whether the certificate is valid for the tour after the log.
     Check {
         tour: Word,
         log: Word,
@@ -50,10 +50,10 @@ pub enum Command {
     },
 }
 
-/// `plan` with the words behind it.
+/// `plan` with the words after it.
 fn plan_of(alloc: Global, words: &[&str]) -> Result<Option<Command>, NoMemory>
     requires { slice_get (map (λ w. w.now) words.now) 0 ≡ Some (codes "plan") }
-    ensures { IfOk result (λ read. MatchOption read (Takes plan_call (map (λ w. w.now) words.now) → ⊥) (IsSentence (map (λ w. w.now) words.now))) }
+    ensures { IfOk result (λ read. MatchOption read (Takes plan_call (map (λ w. w.now) words.now) → ⊥) (IsCommandLine (map (λ w. w.now) words.now))) }
 {
     let call = calls::plan_call(alloc)?;
     let Some(matches) = parse(call, words)? else {
@@ -67,10 +67,10 @@ fn plan_of(alloc: Global, words: &[&str]) -> Result<Option<Command>, NoMemory>
     }))
 }
 
-/// `check` with the words behind it.
+/// `check` with the words after it.
 fn check_of(alloc: Global, words: &[&str]) -> Result<Option<Command>, NoMemory>
     requires { slice_get (map (λ w. w.now) words.now) 0 ≡ Some (codes "check") }
-    ensures { IfOk result (λ read. MatchOption read (Takes check_call (map (λ w. w.now) words.now) → ⊥) (IsSentence (map (λ w. w.now) words.now))) }
+    ensures { IfOk result (λ read. MatchOption read (Takes check_call (map (λ w. w.now) words.now) → ⊥) (IsCommandLine (map (λ w. w.now) words.now))) }
 {
     let call = calls::check_call(alloc)?;
     let Some(matches) = parse(call, words)? else {
@@ -83,10 +83,10 @@ fn check_of(alloc: Global, words: &[&str]) -> Result<Option<Command>, NoMemory>
     }))
 }
 
-/// `audit` with the words behind it.
+/// `audit` with the words after it.
 fn audit_of(alloc: Global, words: &[&str]) -> Result<Option<Command>, NoMemory>
     requires { slice_get (map (λ w. w.now) words.now) 0 ≡ Some (codes "audit") }
-    ensures { IfOk result (λ read. MatchOption read (Takes audit_call (map (λ w. w.now) words.now) → ⊥) (IsSentence (map (λ w. w.now) words.now))) }
+    ensures { IfOk result (λ read. MatchOption read (Takes audit_call (map (λ w. w.now) words.now) → ⊥) (IsCommandLine (map (λ w. w.now) words.now))) }
 {
     let call = calls::audit_call(alloc)?;
     let Some(matches) = parse(call, words)? else {
@@ -98,10 +98,10 @@ fn audit_of(alloc: Global, words: &[&str]) -> Result<Option<Command>, NoMemory>
     }))
 }
 
-/// `graph` with the words behind it.
+/// `graph` with the words after it.
 fn graph_of(alloc: Global, words: &[&str]) -> Result<Option<Command>, NoMemory>
     requires { slice_get (map (λ w. w.now) words.now) 0 ≡ Some (codes "graph") }
-    ensures { IfOk result (λ read. MatchOption read (Takes graph_call (map (λ w. w.now) words.now) → ⊥) (IsSentence (map (λ w. w.now) words.now))) }
+    ensures { IfOk result (λ read. MatchOption read (Takes graph_call (map (λ w. w.now) words.now) → ⊥) (IsCommandLine (map (λ w. w.now) words.now))) }
 {
     let call = calls::graph_call(alloc)?;
     let Some(matches) = parse(call, words)? else {
@@ -113,10 +113,10 @@ fn graph_of(alloc: Global, words: &[&str]) -> Result<Option<Command>, NoMemory>
     }))
 }
 
-/// `make` with the words behind it.
+/// `make` with the words after it.
 fn make_of(alloc: Global, words: &[&str]) -> Result<Option<Command>, NoMemory>
     requires { slice_get (map (λ w. w.now) words.now) 0 ≡ Some (codes "make") }
-    ensures { IfOk result (λ read. MatchOption read (Takes make_call (map (λ w. w.now) words.now) → ⊥) (IsSentence (map (λ w. w.now) words.now))) }
+    ensures { IfOk result (λ read. MatchOption read (Takes make_call (map (λ w. w.now) words.now) → ⊥) (IsCommandLine (map (λ w. w.now) words.now))) }
 {
     let call = calls::make_call(alloc)?;
     let Some(matches) = parse(call, words)? else {
@@ -129,9 +129,9 @@ fn make_of(alloc: Global, words: &[&str]) -> Result<Option<Command>, NoMemory>
     }))
 }
 
-/// The command of texts, `None` where they are no sentence.
+/// The command of texts, `None` where they are no command.
 fn read_texts(alloc: Global, words: &[&str]) -> Result<Option<Command>, NoMemory>
-    ensures { IfOk result (λ read. MatchOption read (AreRefused (map (λ w. w.now) words.now)) (IsSentence (map (λ w. w.now) words.now))) }
+    ensures { IfOk result (λ read. MatchOption read (AreRefused (map (λ w. w.now) words.now)) (IsCommandLine (map (λ w. w.now) words.now))) }
 {
     match words.first() {
         Some(&"plan") => plan_of(alloc, words),
@@ -154,12 +154,12 @@ fn texts_of<'a>(alloc: Global, words: &'a [Word]) -> Result<Vec<&'a str>, NoMemo
     Ok(texts)
 }
 
-/// What the words ask for, `None` where they are no sentence.
+/// What the words ask for, `None` where they are no command.
 ///
-/// The first word names the command, and `clap` reads the words behind it. They are refused exactly
+/// The first word names the command, and `clap` reads the words after it. They are refused exactly
 /// where no command of that name takes them. `NoMemory` where there is no memory to read them.
 pub fn command_of(alloc: Global, words: &[Word]) -> Result<Option<Command>, NoMemory>
-    ensures read { IfOk result (λ read. MatchOption read (IsNoSentence words.now) (IsSentence words.now)) }
+    ensures read { IfOk result (λ read. MatchOption read (IsNoCommandLine words.now) (IsCommandLine words.now)) }
     ensures refused { IfOk result (λ read. IfNone read (AreRefused words.now)) }
     ensures budget { IfOk result (λ read. IfSome read HasBudget) }
 {

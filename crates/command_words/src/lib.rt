@@ -1,6 +1,6 @@
 //! The words of a call of the planner: which command they ask for.
 //!
-//! The first word names the command, and `clap` reads the words behind it.
+//! The first word names the command, and `clap` reads the words after it.
 #![tactic(auto)]
 
 mod calls;
@@ -12,6 +12,6 @@ mod tests;
 
 pub use command::{BUDGET, Command, MOST_MADE, command_of};
 pub use laws::{
-    any_names_stand_behind_two_hyphens, budgets_are_read, plain_forms_are_sentences,
+    any_names_stand_after_two_hyphens, budgets_are_read, plain_forms_are_commands,
     words_ask_for_one_command,
 };

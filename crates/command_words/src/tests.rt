@@ -6,7 +6,7 @@ use std::process::Abort;
 use std::test::Fail;
 
 /// What the words ask for, in one line: the command's name, its names of files and its number;
-/// `usage` where they are no sentence.
+/// `usage` where they are no command.
 fn told(alloc: Global, words: &[&str]) -> Result<String, Fail> {
     let mut given = Vec::new(alloc);
     for word in words {
@@ -59,7 +59,7 @@ fn rows_hold(rt: &impl Abort, alloc: Global, rows: &[(&[&str], &str)]) -> Result
 }
 
 #[test]
-fn plain_forms_are_sentences(rt: HostRuntime) -> Result<(), Fail> {
+fn plain_forms_are_commands(rt: HostRuntime) -> Result<(), Fail> {
     rows_hold(
         &rt,
         rt.alloc(),
@@ -86,7 +86,7 @@ fn two_names_may_be_equal(rt: HostRuntime) -> Result<(), Fail> {
 }
 
 #[test]
-fn a_budget_stands_anywhere_behind_the_name(rt: HostRuntime) -> Result<(), Fail> {
+fn a_budget_stands_anywhere_after_the_name(rt: HostRuntime) -> Result<(), Fail> {
     rows_hold(
         &rt,
         rt.alloc(),

@@ -62,9 +62,14 @@ fn rejects_changed_certificates(rt: HostRuntime) -> Result<(), Fail> {
     assert_eq!(rt; told.status, Status::Rejected);
     let repeated = format!(in alloc; "rejected line {next}: REPEATED\n")?;
     assert_eq!(rt; told.sent.as_slice(), repeated.as_bytes());
-    // That of a shortest schedule proves nothing of the truck without a berth.
+    // A schedule that rests in the berth serves no tour of a truck without one. The runs are counted
+    // in the fourth line.
     let told = checked(alloc, US, stops.as_str(), RESTED, &cert)?;
     assert_eq!(rt; told.status, Status::Rejected);
+    assert_eq!(rt;
+        told.sent.as_slice(),
+        "rejected line 4: SERVES\n".as_bytes()
+    );
     Ok(())
 }
 

@@ -1,5 +1,5 @@
 //! What the planner answers to words, and to files that hold no tour or no log.
-use crate::calls::{AUDIT, Given, PLAN, RESTED, call, stop, tour_of};
+use crate::calls::{AUDIT, Given, Outcome, PLAN, RESTED, call, stop, tour_of};
 use crate::worked_tours::US;
 use driver_cli::Status;
 use std::alloc::Global;
@@ -234,8 +234,17 @@ fn refuses_a_row_of_other_bytes(rt: HostRuntime) -> Result<(), Fail> {
     Ok(())
 }
 
+/// Whether the text was sent: as the beginning of a report, and else as all that was.
+fn is_told(told: &Outcome, text: &str) -> bool {
+    if told.status == Status::Done {
+        told.sent.starts_with(text.as_bytes())
+    } else {
+        told.sent.as_slice() == text.as_bytes()
+    }
+}
+
 #[test]
-fn plans_behind_a_log(rt: HostRuntime) -> Result<(), Fail> {
+fn plans_after_a_log(rt: HostRuntime) -> Result<(), Fail> {
     let alloc = rt.alloc();
     // Eleven hours at the wheel up to the start: ten hours of rest have to come first.
     let tired =
@@ -253,7 +262,7 @@ fn plans_behind_a_log(rt: HostRuntime) -> Result<(), Fail> {
         let tour = tour_of(alloc, US, stop.as_str())?;
         let told = call(alloc, Given::new(&PLAN, tour.as_str(), tired))?;
         assert_eq!(rt; told.status, status, "where {text} is sent");
-        assert!(rt; told.sent.as_slice().starts_with(text.as_bytes()));
+        assert!(rt; is_told(&told, text), "where {text} is sent");
     }
     Ok(())
 }
@@ -284,7 +293,8 @@ fn spends_a_small_budget(rt: HostRuntime) -> Result<(), Fail> {
         ];
         let told = call(alloc, Given::new(&words, tour.as_str(), RESTED))?;
         assert_eq!(rt; told.status, status, "where {text} is sent");
-        assert!(rt; told.sent.as_slice().starts_with(text.as_bytes()));
+        assert!(rt; is_told(&told, text), "where {text} is sent");
+        assert_eq!(rt; told.cert.is_some(), told.status == Status::Done);
     }
     Ok(())
 }
@@ -295,13 +305,15 @@ fn reads_options_as_they_are_given(rt: HostRuntime) -> Result<(), Fail> {
     let stop = stop(alloc, 690, 30, "2026-03-02T06:00", "2026-03-03T03:30")?;
     let tour = tour_of(alloc, US, stop.as_str())?;
     let spent = "spent 3\n";
-    let cases: [(&[&str], &str); 8] = [
+    let cases: [(&[&str], Status, &str); 8] = [
         (
             &["plan", "tour.json", "log.csv", "plan.cert", "--budget=3"],
+            Status::Spent,
             spent,
         ),
         (
             &["plan", "--budget", "3", "tour.json", "log.csv", "plan.cert"],
+            Status::Spent,
             spent,
         ),
         (
@@ -313,6 +325,7 @@ fn reads_options_as_they_are_given(rt: HostRuntime) -> Result<(), Fail> {
                 "log.csv",
                 "plan.cert",
             ],
+            Status::Spent,
             spent,
         ),
         (
@@ -324,18 +337,33 @@ fn reads_options_as_they_are_given(rt: HostRuntime) -> Result<(), Fail> {
                 "--budget=3",
                 "--budget=3",
             ],
+            Status::Usage,
             USAGE,
         ),
         (
             &["plan", "tour.json", "log.csv", "plan.cert", "--help"],
+            Status::Usage,
             USAGE,
         ),
-        (&["plan", "tour.json", "log.csv", "-cert"], USAGE),
-        (&["make", "1000000", "tour.json", "log.csv"], USAGE),
-        (&["audit", "tour.json", "--", "log.csv"], "lawful\n"),
+        (
+            &["plan", "tour.json", "log.csv", "-cert"],
+            Status::Usage,
+            USAGE,
+        ),
+        (
+            &["make", "1000000", "tour.json", "log.csv"],
+            Status::Usage,
+            USAGE,
+        ),
+        (
+            &["audit", "tour.json", "--", "log.csv"],
+            Status::Done,
+            "lawful\n",
+        ),
     ];
-    for (words, text) in cases {
+    for (words, status, text) in cases {
         let told = call(alloc, Given::new(words, tour.as_str(), RESTED))?;
+        assert_eq!(rt; told.status, status, "where {text} is sent");
         assert_eq!(rt; told.sent.as_slice(), text.as_bytes());
     }
     Ok(())

@@ -31,7 +31,7 @@ const CANADA_BERTH: &str =
 /// A tour of Australia on quarter hours from Monday 06:00.
 const AUSTRALIA: &str = r#""book":"hvnl","grid":15,"start":"2026-03-02T06:00""#;
 
-/// What planning the tour of this form behind the log does.
+/// What planning the tour of this form after the log does.
 pub(crate) fn planned(
     alloc: Global,
     head: &str,
@@ -61,22 +61,48 @@ pub(crate) fn checked(
 }
 
 /// Whether the text tells a shortest schedule of this duration that departs between these times.
-fn tells(sent: &[u8], duration: &str, least: &str, most: &str) -> bool {
-    let head = "shortest ".len() + duration.len() + " from ".len();
-    if !sent.starts_with("shortest ".as_bytes()) || sent.len() < head {
-        return false;
+fn tells(
+    alloc: Global,
+    sent: &[u8],
+    duration: &str,
+    departs: (&str, &str),
+) -> Result<bool, NoMemory> {
+    let (least, most) = departs;
+    let head = format!(in alloc; "shortest {duration} from ")?;
+    let from = head.len();
+    if !sent.starts_with(head.as_bytes()) || sent.len() < from || sent.len() - from < 16 {
+        return Ok(false);
     }
-    if sent.len() - head < least.len() {
-        return false;
-    }
-    let departs = &sent[head..head + least.len()];
-    sent["shortest ".len()..].starts_with(duration.as_bytes())
-        && least.as_bytes() <= departs
-        && departs <= most.as_bytes()
+    let departs = &sent[from..from + 16];
+    Ok(least.as_bytes() <= departs && departs <= most.as_bytes())
 }
 
 /// Checks that a shortest schedule takes so long and departs between these times, and that its
-/// certificate is accepted.
+/// certificate is accepted. Gives the report of the schedule.
+fn taken(
+    rt: &impl Abort,
+    alloc: Global,
+    head: &str,
+    stops: &str,
+    log: &str,
+    duration: &str,
+    departs: (&str, &str),
+) -> Result<Vec<u8>, Fail> {
+    let plan = planned(alloc, head, stops, log)?;
+    assert_eq!(rt; plan.status, Status::Done, "where it takes {duration}");
+    assert!(rt;
+        tells(alloc, &plan.sent, duration, departs)?,
+        "where it takes {duration}"
+    );
+    let cert = plan.cert.unwrap_or(Vec::new(alloc));
+    let check = checked(alloc, head, stops, log, &cert)?;
+    assert_eq!(rt; check.status, Status::Done, "where it takes {duration}");
+    let accepted = format!(in alloc; "accepted shortest {duration}\n")?;
+    assert_eq!(rt; check.sent.as_slice(), accepted.as_bytes());
+    Ok(plan.sent)
+}
+
+/// Checks that a shortest schedule takes so long and departs between these times, as `taken` does.
 fn takes(
     rt: &impl Abort,
     alloc: Global,
@@ -86,15 +112,7 @@ fn takes(
     duration: &str,
     departs: (&str, &str),
 ) -> Result<(), Fail> {
-    let (least, most) = departs;
-    let plan = planned(alloc, head, stops, log)?;
-    assert_eq!(rt; plan.status, Status::Done, "where it takes {duration}");
-    assert!(rt; tells(&plan.sent, duration, least, most));
-    let cert = plan.cert.unwrap_or(Vec::new(alloc));
-    let check = checked(alloc, head, stops, log, &cert)?;
-    assert_eq!(rt; check.status, Status::Done, "where it takes {duration}");
-    let accepted = format!(in alloc; "accepted shortest {duration}\n")?;
-    assert_eq!(rt; check.sent.as_slice(), accepted.as_bytes());
+    let _ = taken(rt, alloc, head, stops, log, duration, departs)?;
     Ok(())
 }
 
@@ -305,6 +323,39 @@ fn rounds_times_to_its_grid(rt: HostRuntime) -> Result<(), Fail> {
     has_none(&rt, alloc, US, empty.as_str(), RESTED)
 }
 
+/// The number that two digits spell.
+fn two_digits(tens: u8, units: u8) -> u32 {
+    u32::from(tens.saturating_sub(b'0')) * 10 + u32::from(units.saturating_sub(b'0'))
+}
+
+/// The minute of its month, from that of day 0 on, of the time that the line has at the place.
+fn minute_at(line: &[u8], place: usize) -> u32 {
+    if line.len() < 16 || line.len() - 16 < place {
+        return 0;
+    }
+    let day = two_digits(line[place + 8], line[place + 9]);
+    let hour = two_digits(line[place + 11], line[place + 12]);
+    let minute = two_digits(line[place + 14], line[place + 15]);
+    day.saturating_mul(1440)
+        .saturating_add(hour.saturating_mul(60))
+        .saturating_add(minute)
+}
+
+/// The minutes at the wheel in a day of the month, by the lines of a report's runs.
+fn driven_on(sent: &[u8], day: u32) -> u32 {
+    let begin = day.saturating_mul(1440);
+    let end = begin.saturating_add(1440);
+    let mut driven = 0u32;
+    for line in sent.split(|byte| *byte == b'\n') {
+        if line.ends_with(b" DRIVE A") {
+            let from = minute_at(line, 0).max(begin);
+            let to = minute_at(line, 17).min(end);
+            driven = driven.saturating_add(to.saturating_sub(from));
+        }
+    }
+    driven
+}
+
 #[test]
 fn plans_a_canadian_shift_and_its_rest(rt: HostRuntime) -> Result<(), Fail> {
     let alloc = rt.alloc();
@@ -320,7 +371,7 @@ fn plans_a_canadian_shift_and_its_rest(rt: HostRuntime) -> Result<(), Fail> {
         wide,
     )?;
     let longer = stop(alloc, 840, 30, MONDAY, THURSDAY)?;
-    takes(
+    let report = taken(
         &rt,
         alloc,
         CANADA_DEFER,
@@ -328,7 +379,10 @@ fn plans_a_canadian_shift_and_its_rest(rt: HostRuntime) -> Result<(), Fail> {
         RESTED,
         "22:30",
         wide,
-    )
+    )?;
+    assert_eq!(rt; driven_on(&report, 2), 780);
+    assert_eq!(rt; driven_on(&report, 3), 60);
+    Ok(())
 }
 
 #[test]

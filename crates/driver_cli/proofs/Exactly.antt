@@ -13,7 +13,7 @@ use Rattle.tour_reader.specs.Tour.{tour_of}
 use Rattle.duty_log.specs.declared.fault.LogFault.{LogFault}
 use Rattle.duty_log.specs.declared.read.TheConstants.{LOG_LIMIT}
 use Rattle.duty_log.specs.Log.{ReadsLog}
-use Rattle.duty_log.specs.LogLaws.{one_log}
+use Rattle.duty_log.specs.Laws.LogLaws.{one_log}
 use Rattle.cert_text.specs.declared.limits.TheConstants.{CERT_LIMIT}
 use Rattle.tour_plan.specs.Planned.{IsLawfulLog, HasAsMany}
 use Rattle.driver_cli.specs.declared.answer.Status.{Status}
@@ -61,7 +61,7 @@ same_log known files t l tour a b told h given =
     let e = same_start known files l (LOG_LIMIT + 1) h.bytes given.bytes told h.start given.start in
     one_log given.bytes tour.params tour.start a b (subst (λ bs. ReadsLog bs tour.params tour.start a) e h.reads) given.reads
 
--- another tour that is given is the same, and what is given behind it is given behind this one
+-- another tour that is given is the same, and what is given after it is given after this one
 log_of : (known : Option Files) (files : Files) (t l : Bytes) (tour tour' : Tour) (b : Result (List Activity) LogFault) → known ≡ Some files → HasTour files t (Ok tour) → GivesTour known t (Ok tour') → GivesLog known l tour' b → GivesLog known l tour b
 log_of known files t l tour tour' b told h given log =
     let e : tour ≡ tour' = ok_same tour tour' (same_tour known files t (Ok tour) (Ok tour') told h given) in
@@ -84,14 +84,14 @@ moved P tour tour' log log' same p = subst (λ x. P x log) (sym same.tours) (sub
 
 -- ---- the files that each command reads first
 
-module _ (r : ReadSide) (files : Files) (told : r.files ≡ Some files) (t l : Bytes) (behind : Tour → List Activity → Status → Type 0) (status : Status) where
+module _ (r : ReadSide) (files : Files) (told : r.files ≡ Some files) (t l : Bytes) (thereafter : Tour → List Activity → Status → Type 0) (status : Status) where
   no_tour : {a : Result Tour TourFault} → get files t ≡ None → GivesTour r.files t a → ⊥
   no_tour missing g = not_there r.files files t (TOUR_LIMIT + 1) g.bytes told missing g.start
 
   no_log : {tour : Tour} {a : Result (List Activity) LogFault} → get files l ≡ None → GivesLog r.files l tour a → ⊥
   no_log missing g = not_there r.files files l (LOG_LIMIT + 1) g.bytes told missing g.start
 
-  tour_missing : Stage t l r behind status → get files t ≡ None → IsFault status
+  tour_missing : Stage t l r thereafter status → get files t ≡ None → IsFault status
   tour_missing (inl f) missing = f
   tour_missing (inr (inl h)) missing = absurd (no_tour missing h.1)
   tour_missing (inr (inr (inl h))) missing = absurd (no_tour missing h.2)
@@ -103,13 +103,13 @@ module _ (r : ReadSide) (files : Files) (told : r.files ≡ Some files) (t l : B
   good_tour : (tour : Tour) (fault : TourFault) → HasTour files t (Ok tour) → GivesTour r.files t (Err fault) → ⊥
   good_tour tour fault h g = ok_is_no_err tour fault (same_tour r.files files t (Ok tour) (Err fault) told h g)
 
-  tour_refused : Stage t l r behind status → (fault : TourFault) → HasTour files t (Err fault) → IsOr Refused status
+  tour_refused : Stage t l r thereafter status → (fault : TourFault) → HasTour files t (Err fault) → IsOr Refused status
   tour_refused (inl f) fault h = inr f
   tour_refused (inr (inl g)) fault h = inl g.2
   tour_refused (inr (inr (inl g))) fault h = absurd (bad_tour fault g.0 h g.2)
   tour_refused (inr (inr (inr g))) fault h = absurd (bad_tour fault g.tour h g.given.tour_given)
 
-  log_missing : Stage t l r behind status → (tour : Tour) → HasTour files t (Ok tour) → get files l ≡ None → IsFault status
+  log_missing : Stage t l r thereafter status → (tour : Tour) → HasTour files t (Ok tour) → get files l ≡ None → IsFault status
   log_missing (inl f) tour h missing = f
   log_missing (inr (inl g)) tour h missing = absurd (good_tour tour g.0 h g.1)
   log_missing (inr (inr (inl g))) tour h missing = absurd (no_log missing g.3)
@@ -121,13 +121,13 @@ module _ (r : ReadSide) (files : Files) (told : r.files ≡ Some files) (t l : B
   good_log : (tour tour' : Tour) (log : List Activity) (fault : LogFault) → HasLog files t l tour (Ok log) → GivesTour r.files t (Ok tour') → GivesLog r.files l tour' (Err fault) → ⊥
   good_log tour tour' log fault h g k = ok_is_no_err log fault (same_log r.files files t l tour (Ok log) (Err fault) told h (log_of r.files files t l tour tour' (Err fault) told h.tour_there g k))
 
-  log_refused : Stage t l r behind status → (tour : Tour) (fault : LogFault) → HasLog files t l tour (Err fault) → IsOr Refused status
+  log_refused : Stage t l r thereafter status → (tour : Tour) (fault : LogFault) → HasLog files t l tour (Err fault) → IsOr Refused status
   log_refused (inl f) tour fault h = inr f
   log_refused (inr (inl g)) tour fault h = absurd (good_tour tour g.0 h.tour_there g.1)
   log_refused (inr (inr (inl g))) tour fault h = inl g.4
   log_refused (inr (inr (inr g))) tour fault h = absurd (bad_log tour g.tour fault g.log h g.given)
 
-  files_exact : Stage t l r behind status → FilesExact files t l status
+  files_exact : Stage t l r thereafter status → FilesExact files t l status
   files_exact stage = record {
     tour_missing = tour_missing stage;
     tour_refused = tour_refused stage;
@@ -135,35 +135,35 @@ module _ (r : ReadSide) (files : Files) (told : r.files ≡ Some files) (t l : B
     log_refused = log_refused stage;
   }
 
-  -- behind a log that reads only a fault comes before what is told of it
-  behind_log : Stage t l r behind status → (tour : Tour) (log : List Activity) → HasLog files t l tour (Ok log) → IsFault status ⊎ behind tour log status
-  behind_log (inl f) tour log h = inl f
-  behind_log (inr (inl g)) tour log h = absurd (good_tour tour g.0 h.tour_there g.1)
-  behind_log (inr (inr (inl g))) tour log h = absurd (good_log tour g.0 log g.1 h g.2 g.3)
-  behind_log (inr (inr (inr g))) tour log h = inr (moved (λ x y. behind x y status) tour g.tour log g.log (same_given r files t l tour g.tour log g.log told h g.given) g.holds)
+  -- after a log that reads only a fault comes before what is told of it
+  after_log : Stage t l r thereafter status → (tour : Tour) (log : List Activity) → HasLog files t l tour (Ok log) → IsFault status ⊎ thereafter tour log status
+  after_log (inl f) tour log h = inl f
+  after_log (inr (inl g)) tour log h = absurd (good_tour tour g.0 h.tour_there g.1)
+  after_log (inr (inr (inl g))) tour log h = absurd (good_log tour g.0 log g.1 h g.2 g.3)
+  after_log (inr (inr (inr g))) tour log h = inr (moved (λ x y. thereafter x y status) tour g.tour log g.log (same_given r files t l tour g.tour log g.log told h g.given) g.holds)
 
 -- ---- the log that is judged
 
-module _ (r : ReadSide) (files : Files) (told : r.files ≡ Some files) (t l : Bytes) (behind : Tour → List Activity → Status → Type 0) (status : Status) where
-  told_unlawful : (tour : Tour) (log : List Activity) → (IsLawfulLog tour log → ⊥) → IsFault status ⊎ Judged behind tour log status → IsOr LogUnlawful status
+module _ (r : ReadSide) (files : Files) (told : r.files ≡ Some files) (t l : Bytes) (thereafter : Tour → List Activity → Status → Type 0) (status : Status) where
+  told_unlawful : (tour : Tour) (log : List Activity) → (IsLawfulLog tour log → ⊥) → IsFault status ⊎ Judged thereafter tour log status → IsOr LogUnlawful status
   told_unlawful tour log never (inl f) = inr f
   told_unlawful tour log never (inr (inl g)) = inl g.1
   told_unlawful tour log never (inr (inr g)) = absurd (never g.0)
 
-  inputs : Stage t l r (Judged behind) status → InputsExact files t l status
+  inputs : Stage t l r (Judged thereafter) status → InputsExact files t l status
   inputs stage = record {
-    read = files_exact r files told t l (Judged behind) status stage;
-    unlawful = λ tour log h never. told_unlawful tour log never (behind_log r files told t l (Judged behind) status stage tour log h);
+    read = files_exact r files told t l (Judged thereafter) status stage;
+    unlawful = λ tour log h never. told_unlawful tour log never (after_log r files told t l (Judged thereafter) status stage tour log h);
   }
 
-  told_lawful : (tour : Tour) (log : List Activity) → IsLawfulLog tour log → IsFault status ⊎ Judged behind tour log status → IsFault status ⊎ behind tour log status
+  told_lawful : (tour : Tour) (log : List Activity) → IsLawfulLog tour log → IsFault status ⊎ Judged thereafter tour log status → IsFault status ⊎ thereafter tour log status
   told_lawful tour log is (inl f) = inl f
   told_lawful tour log is (inr (inl g)) = absurd (g.0 is)
   told_lawful tour log is (inr (inr g)) = inr g.1
 
-  -- behind a lawful log only a fault comes before what is told of it
-  lawful : Stage t l r (Judged behind) status → (tour : Tour) (log : List Activity) → HasLawfulLog files t l tour log → IsFault status ⊎ behind tour log status
-  lawful stage tour log h = told_lawful tour log h.lawful (behind_log r files told t l (Judged behind) status stage tour log h.there)
+  -- after a lawful log only a fault comes before what is told of it
+  lawful : Stage t l r (Judged thereafter) status → (tour : Tour) (log : List Activity) → HasLawfulLog files t l tour log → IsFault status ⊎ thereafter tour log status
+  lawful stage tour log h = told_lawful tour log h.lawful (after_log r files told t l (Judged thereafter) status stage tour log h.there)
 
 -- ---- `graph`
 
@@ -175,7 +175,7 @@ module _ (r : ReadSide) (files : Files) (told : r.files ≡ Some files) (t l : B
   pub graph_exact : Stage t l r GraphBehind status → GraphExact files t l status
   graph_exact stage = record {
     read = files_exact r files told t l GraphBehind status stage;
-    drawn = λ tour log h. graph_drawn (behind_log r files told t l GraphBehind status stage tour log h);
+    drawn = λ tour log h. graph_drawn (after_log r files told t l GraphBehind status stage tour log h);
   }
 
 -- ---- `audit`

@@ -42,8 +42,8 @@ make_stage number t l w s Rejected e = absurd e.1
 -- ---- one number makes one tour and one log
 
 -- so what is told of those made is told of these
-behind : (number : ℕ) (status : Status) (tour : Tour) (log : List Activity) → IsMade number tour log → IsMadeBehind number status → PlanBehind BUDGET tour log status
-behind number status tour log m b =
+thereafter : (number : ℕ) (status : Status) (tour : Tour) (log : List Activity) → IsMade number tour log → IsMadeBehind number status → PlanBehind BUDGET tour log status
+thereafter number status tour log m b =
     subst (λ x. PlanBehind BUDGET x log status) (b.made.drawn ∙ sym m.drawn)
     (subst (λ y. PlanBehind BUDGET b.tour y status) (b.made.week ∙ sym m.week) b.holds)
 
@@ -73,15 +73,15 @@ no_fault_spent status (inr (inr e)) s = e
 module _ (number : ℕ) (status : Status) where
   done : IsPutFault status ⊎ IsMadeBehind number status → (tour : Tour) (log schedule : List Activity) → IsMade number tour log → IsSolution tour log schedule → IsOneOf (Spent ∷ Done ∷ WriteFault ∷ Memory ∷ []) status
   done (inl f) tour log schedule m is = inr (inr f)
-  done (inr b) tour log schedule m is = solved status tour log schedule is (behind number status tour log m b)
+  done (inr b) tour log schedule m is = solved status tour log schedule is (thereafter number status tour log m b)
 
   infeasible : IsPutFault status ⊎ IsMadeBehind number status → (tour : Tour) (log : List Activity) → IsMade number tour log → IsInfeasible tour log → IsOneOf (Spent ∷ Infeasible ∷ WriteFault ∷ Memory ∷ []) status
   infeasible (inl f) tour log m none = inr (inr f)
-  infeasible (inr b) tour log m none = unsolved status tour log none (behind number status tour log m b)
+  infeasible (inr b) tour log m none = unsolved status tour log none (thereafter number status tour log m b)
 
   few_enough : IsPutFault status ⊎ IsMadeBehind number status → (tour : Tour) (log : List Activity) → IsMade number tour log → (HasAsMany tour log BUDGET → ⊥) → status ≡ Spent → ⊥
   few_enough (inl f) tour log m few s = no_fault_spent status f s
-  few_enough (inr b) tour log m few s = enough status tour log few s (behind number status tour log m b)
+  few_enough (inr b) tour log m few s = enough status tour log few s (thereafter number status tour log m b)
 
   pub make_exact : IsPutFault status ⊎ IsMadeBehind number status → MakeExact number status
   make_exact stage = record { done = done stage; infeasible = infeasible stage; enough = few_enough stage }

@@ -1,5 +1,5 @@
 -- How far a call came: what its status tells of the files that it read.
-use Rattle.std.specs.Prelude.{◌≡◌, ◌⊎◌, ◌+◌, ℕ, List, Ok, Err, [], ◌∷◌, ⊤, refl}
+use Rattle.std.specs.Prelude.{◌≡◌, ◌⊎◌, ◌+◌, ℕ, List, Ok, Err, [], ◌∷◌, refl}
 use Rattle.std.proofs.Common.{inl, inr, arith}
 use Rattle.duty_core.specs.declared.activity.Activity.{Activity}
 use Rattle.rule_core.specs.Reach.{IsOneOf}
@@ -13,9 +13,9 @@ use Rattle.tour_plan.specs.Planned.{IsLawfulLog, HasAsMany}
 use Rattle.driver_cli.specs.declared.answer.Status.{Status}
 use Rattle.driver_cli.specs.declared.answer.Status.TheVariants.{Done, Usage, Refused, Infeasible, LogUnlawful, Spent, ReadFault, WriteFault, Memory, Rejected}
 use Rattle.driver_cli.specs.Given.{GivesTour, GivesLog, GivesCert}
-use Rattle.driver_cli.specs.Inputs.{AreGiven, InputAnswers, LawfulAnswers}
+use Rattle.driver_cli.specs.Inputs.{AreGiven, InputAnswers, InputsLeave, LawfulAnswers}
 use Rattle.driver_cli.specs.Sides.{ReadSide, WriteSide, SinkSide}
-use Rattle.driver_cli.specs.Answers.{AuditAnswers, GraphAnswers, IsTooLong, IsInvalid, BytesAnswers, CheckAnswers, PlanAnswers, PlanLeaves}
+use Rattle.driver_cli.specs.Answers.{AuditAnswers, GraphAnswers, IsTooLong, IsInvalid, BytesAnswers, CheckAnswers, CheckLeaves, PlanAnswers, PlanLeaves}
 use Rattle.driver_cli.specs.Exact.{IsAccepted}
 use Rattle.driver_cli.specs.Ends.{Told}
 use Rattle.driver_cli.proofs.Prefixes.{lawful_before}
@@ -25,29 +25,29 @@ abbrev pub IsFault : Status → Type 0
 IsFault status = IsOneOf (ReadFault ∷ WriteFault ∷ Memory ∷ []) status
 
 -- the files give a tour and a log, and this holds of them
-pub record IsBehind (t l : Bytes) (r : ReadSide) (behind : Tour → List Activity → Status → Type 0) (status : Status) : Type 0 where
+pub record IsBehind (t l : Bytes) (r : ReadSide) (thereafter : Tour → List Activity → Status → Type 0) (status : Status) : Type 0 where
   pub tour : Tour
   pub log : List Activity
   pub given : AreGiven t l r tour log
-  pub holds : behind tour log status
+  pub holds : thereafter tour log status
 
 -- a fault; or the tour is refused; or the log is; or both are given
 abbrev pub Stage : Bytes → Bytes → ReadSide → (Tour → List Activity → Status → Type 0) → Status → Type 0
-Stage t l r behind status =
+Stage t l r thereafter status =
     IsFault status
     ⊎ (((fault : TourFault) × GivesTour r.files t (Err fault) × (Refused ≡ status))
     ⊎ (((tour : Tour) × (fault : LogFault) × GivesTour r.files t (Ok tour) × GivesLog r.files l tour (Err fault) × (Refused ≡ status))
-    ⊎ IsBehind t l r behind status))
+    ⊎ IsBehind t l r thereafter status))
 
 -- the log is not lawful, and that is told; or it is, and this holds of it
 abbrev pub Judged : (Tour → List Activity → Status → Type 0) → Tour → List Activity → Status → Type 0
-Judged behind tour log status = ((IsLawfulLog tour log → ⊥) × (LogUnlawful ≡ status)) ⊎ (IsLawfulLog tour log × behind tour log status)
+Judged thereafter tour log status = ((IsLawfulLog tour log → ⊥) × (LogUnlawful ≡ status)) ⊎ (IsLawfulLog tour log × thereafter tour log status)
 
--- what `graph` tells behind a log that reads
+-- what `graph` tells after a log that reads
 abbrev pub GraphBehind : Tour → List Activity → Status → Type 0
 GraphBehind tour log status = Done ≡ status
 
--- what the other commands tell behind a lawful log
+-- what the other commands tell after a lawful log
 abbrev pub AuditBehind : Tour → List Activity → Status → Type 0
 AuditBehind tour log status = Done ≡ status
 
@@ -66,20 +66,20 @@ PlanBehind budget tour log status =
 pub not_lawful : (tour : Tour) (log : List Activity) (unit : ℕ) → IsFirstUnlawful tour.params (log_start tour log) log unit → IsLawfulLog tour log → ⊥
 not_lawful tour log unit first l = first.unlawful (lawful_before tour.params (log_start tour log) log (unit + 1) l)
 
-input_stage : (t l : Bytes) (r : ReadSide) (behind : Tour → List Activity → Status → Type 0) (status : Status) (text : Bytes) → InputAnswers t l r status text → Stage t l r behind status
-input_stage t l r behind Refused text (inl h) = inr (inl (h.fault, h.given, refl))
-input_stage t l r behind Refused text (inr h) = inr (inr (inl (h.tour, h.fault, h.tour_given, h.given, refl)))
-input_stage t l r behind ReadFault text h = inl (inl refl)
-input_stage t l r behind LogUnlawful text h = absurd h
-input_stage t l r behind Done text h = absurd h
-input_stage t l r behind Usage text h = absurd h
-input_stage t l r behind Infeasible text h = absurd h
-input_stage t l r behind Spent text h = absurd h
-input_stage t l r behind WriteFault text h = absurd h
-input_stage t l r behind Memory text h = absurd h
-input_stage t l r behind Rejected text h = absurd h
+input_stage : (t l : Bytes) (r : ReadSide) (thereafter : Tour → List Activity → Status → Type 0) (status : Status) (text : Bytes) → InputAnswers t l r status text → Stage t l r thereafter status
+input_stage t l r thereafter Refused text (inl h) = inr (inl (h.fault, h.given, refl))
+input_stage t l r thereafter Refused text (inr h) = inr (inr (inl (h.tour, h.fault, h.tour_given, h.given, refl)))
+input_stage t l r thereafter ReadFault text h = inl (inl refl)
+input_stage t l r thereafter LogUnlawful text h = absurd h
+input_stage t l r thereafter Done text h = absurd h
+input_stage t l r thereafter Usage text h = absurd h
+input_stage t l r thereafter Infeasible text h = absurd h
+input_stage t l r thereafter Spent text h = absurd h
+input_stage t l r thereafter WriteFault text h = absurd h
+input_stage t l r thereafter Memory text h = absurd h
+input_stage t l r thereafter Rejected text h = absurd h
 
-pub graph_stage : (t l : Bytes) (r : ReadSide) (s : SinkSide) (status : Status) → Told (GraphAnswers t l r) ⊤ s status → Stage t l r GraphBehind status
+pub graph_stage : (t l : Bytes) (r : ReadSide) (s : SinkSide) (status : Status) → Told (GraphAnswers t l r) (InputsLeave t l r) s status → Stage t l r GraphBehind status
 graph_stage t l r s Done e = inr (inr (inr (let h = e.1 in record { tour = h.tour; log = h.log; given = h.read.given; holds = refl })))
 graph_stage t l r s Refused e = input_stage t l r GraphBehind Refused e.0 e.1
 graph_stage t l r s ReadFault e = inl (inl refl)
@@ -91,25 +91,25 @@ graph_stage t l r s Infeasible e = absurd e.1
 graph_stage t l r s Spent e = absurd e.1
 graph_stage t l r s Rejected e = absurd e.1
 
--- behind a lawful log
-lawful_behind : (t l : Bytes) (r : ReadSide) (behind : Tour → List Activity → Status → Type 0) (status : Status) (tour : Tour) (log : List Activity) → AreGiven t l r tour log → IsLawfulLog tour log → behind tour log status → Stage t l r (Judged behind) status
-lawful_behind t l r behind status tour log given lawful holds = inr (inr (inr (record { tour = tour; log = log; given = given; holds = inr (lawful, holds) })))
+-- after a lawful log
+lawful_after : (t l : Bytes) (r : ReadSide) (thereafter : Tour → List Activity → Status → Type 0) (status : Status) (tour : Tour) (log : List Activity) → AreGiven t l r tour log → IsLawfulLog tour log → thereafter tour log status → Stage t l r (Judged thereafter) status
+lawful_after t l r thereafter status tour log given lawful holds = inr (inr (inr (record { tour = tour; log = log; given = given; holds = inr (lawful, holds) })))
 
-lawful_stage : (t l : Bytes) (r : ReadSide) (behind : Tour → List Activity → Status → Type 0) (status : Status) (text : Bytes) → LawfulAnswers t l r status text → Stage t l r (Judged behind) status
-lawful_stage t l r behind Refused text (inl h) = inr (inl (h.fault, h.given, refl))
-lawful_stage t l r behind Refused text (inr h) = inr (inr (inl (h.tour, h.fault, h.tour_given, h.given, refl)))
-lawful_stage t l r behind ReadFault text h = inl (inl refl)
-lawful_stage t l r behind LogUnlawful text h = inr (inr (inr (record { tour = h.tour; log = h.log; given = h.read.given; holds = inl (not_lawful h.tour h.log h.unlawful.unit h.unlawful.first, refl) })))
-lawful_stage t l r behind Done text h = absurd h
-lawful_stage t l r behind Usage text h = absurd h
-lawful_stage t l r behind Infeasible text h = absurd h
-lawful_stage t l r behind Spent text h = absurd h
-lawful_stage t l r behind WriteFault text h = absurd h
-lawful_stage t l r behind Memory text h = absurd h
-lawful_stage t l r behind Rejected text h = absurd h
+lawful_stage : (t l : Bytes) (r : ReadSide) (thereafter : Tour → List Activity → Status → Type 0) (status : Status) (text : Bytes) → LawfulAnswers t l r status text → Stage t l r (Judged thereafter) status
+lawful_stage t l r thereafter Refused text (inl h) = inr (inl (h.fault, h.given, refl))
+lawful_stage t l r thereafter Refused text (inr h) = inr (inr (inl (h.tour, h.fault, h.tour_given, h.given, refl)))
+lawful_stage t l r thereafter ReadFault text h = inl (inl refl)
+lawful_stage t l r thereafter LogUnlawful text h = inr (inr (inr (record { tour = h.tour; log = h.log; given = h.read.given; holds = inl (not_lawful h.tour h.log h.unlawful.unit h.unlawful.first, refl) })))
+lawful_stage t l r thereafter Done text h = absurd h
+lawful_stage t l r thereafter Usage text h = absurd h
+lawful_stage t l r thereafter Infeasible text h = absurd h
+lawful_stage t l r thereafter Spent text h = absurd h
+lawful_stage t l r thereafter WriteFault text h = absurd h
+lawful_stage t l r thereafter Memory text h = absurd h
+lawful_stage t l r thereafter Rejected text h = absurd h
 
-pub audit_stage : (t l : Bytes) (r : ReadSide) (s : SinkSide) (status : Status) → Told (AuditAnswers t l r) ⊤ s status → Stage t l r (Judged AuditBehind) status
-audit_stage t l r s Done e = let h = e.1 in lawful_behind t l r AuditBehind Done h.tour h.log h.lawful.read.given h.lawful.lawful refl
+pub audit_stage : (t l : Bytes) (r : ReadSide) (s : SinkSide) (status : Status) → Told (AuditAnswers t l r) (InputsLeave t l r) s status → Stage t l r (Judged AuditBehind) status
+audit_stage t l r s Done e = let h = e.1 in lawful_after t l r AuditBehind Done h.tour h.log h.lawful.read.given h.lawful.lawful refl
 audit_stage t l r s Refused e = lawful_stage t l r AuditBehind Refused e.0 e.1
 audit_stage t l r s LogUnlawful e = lawful_stage t l r AuditBehind LogUnlawful e.0 e.1
 audit_stage t l r s ReadFault e = inl (inl refl)
@@ -128,14 +128,14 @@ not_accepted : (tour : Tour) (log : List Activity) (bytes text : Bytes) → IsTo
 not_accepted tour log bytes text (inl h) a = let long = h.long in let short = a.short in absurd (omega arith)
 not_accepted tour log bytes text (inr h) a = h.none a.cert a.is
 
-pub check_stage : (t l c : Bytes) (r : ReadSide) (s : SinkSide) (status : Status) → Told (CheckAnswers t l c r) ⊤ s status → Stage t l r (Judged (CheckBehind c r)) status
+pub check_stage : (t l c : Bytes) (r : ReadSide) (s : SinkSide) (status : Status) → Told (CheckAnswers t l c r) (CheckLeaves t l c r) s status → Stage t l r (Judged (CheckBehind c r)) status
 check_stage t l c r s Done e =
     let h = e.1 in
-    lawful_behind t l r (CheckBehind c r) Done h.tour h.log h.lawful.read.given h.lawful.lawful
+    lawful_after t l r (CheckBehind c r) Done h.tour h.log h.lawful.read.given h.lawful.lawful
     (record { bytes = h.bytes; given = h.given; answer = inl (refl, accepted h.tour h.log h.bytes e.0 h.answer) })
 check_stage t l c r s Rejected e =
     let h = e.1 in
-    lawful_behind t l r (CheckBehind c r) Rejected h.tour h.log h.lawful.read.given h.lawful.lawful
+    lawful_after t l r (CheckBehind c r) Rejected h.tour h.log h.lawful.read.given h.lawful.lawful
     (record { bytes = h.bytes; given = h.given; answer = inr (refl, not_accepted h.tour h.log h.bytes e.0 h.answer) })
 check_stage t l c r s Refused e = lawful_stage t l r (CheckBehind c r) Refused e.0 e.1
 check_stage t l c r s LogUnlawful e = lawful_stage t l r (CheckBehind c r) LogUnlawful e.0 e.1
@@ -149,13 +149,13 @@ check_stage t l c r s Spent e = absurd e.1
 pub plan_stage : (t l c : Bytes) (budget : ℕ) (r : ReadSide) (w : WriteSide) (s : SinkSide) (status : Status) → Told (PlanAnswers t l c budget r w) (PlanLeaves t l c r w) s status → Stage t l r (Judged (PlanBehind budget)) status
 plan_stage t l c budget r w s Done e =
     let h = e.1 in
-    lawful_behind t l r (PlanBehind budget) Done h.tour h.log h.lawful.read.given h.lawful.lawful (inl (refl, (_, h.proof.shortest.solves)))
+    lawful_after t l r (PlanBehind budget) Done h.tour h.log h.lawful.read.given h.lawful.lawful (inl (refl, (_, h.proof.shortest.solves)))
 plan_stage t l c budget r w s Infeasible e =
     let h = e.1 in
-    lawful_behind t l r (PlanBehind budget) Infeasible h.tour h.log h.lawful.read.given h.lawful.lawful (inr (inl (refl, h.proof.infeasible)))
+    lawful_after t l r (PlanBehind budget) Infeasible h.tour h.log h.lawful.read.given h.lawful.lawful (inr (inl (refl, h.proof.infeasible)))
 plan_stage t l c budget r w s Spent e =
     let h = e.1.1 in
-    lawful_behind t l r (PlanBehind budget) Spent h.tour h.log h.lawful.read.given h.lawful.lawful (inr (inr (refl, h.spent.many)))
+    lawful_after t l r (PlanBehind budget) Spent h.tour h.log h.lawful.read.given h.lawful.lawful (inr (inr (refl, h.spent.many)))
 plan_stage t l c budget r w s Refused e = lawful_stage t l r (PlanBehind budget) Refused e.0 e.1.1
 plan_stage t l c budget r w s LogUnlawful e = lawful_stage t l r (PlanBehind budget) LogUnlawful e.0 e.1.1
 plan_stage t l c budget r w s ReadFault e = inl (inl refl)

@@ -1,56 +1,69 @@
 -- How the steps of a command make its answer.
-use Rattle.std.specs.Prelude.{◌≡◌, ◌⊎◌, ℕ, List, Option, None, Some, Result, Ok, Err, IsErrAnd, ⊤, refl}
+use Rattle.std.specs.Prelude.{◌≡◌, ℕ, List, Option, None, Some, Result, Ok, Err, IsErrAnd, refl}
 use Rattle.std.specs.FinMap.{insert}
 use Rattle.std.specs.Option.{option_map}
 use Rattle.std.proofs.Common.{inl, inr, sym, subst, ap, ◌∙◌}
 use Rattle.duty_core.specs.declared.activity.Activity.{Activity}
 use Rattle.duty_core.specs.declared.memory.NoMemory.{NoMemory}
+use Rattle.outside.specs.declared.desk.Desk as desk
 use Rattle.outside.specs.Outside.{Bytes, Files, Rose, PutsOthers}
 use Rattle.tour_model.specs.declared.tour.Tour.{Tour}
-use Rattle.tour_model.specs.Tour.{IsTour}
 use Rattle.report_text.specs.Made.{tour_made, log_made}
 use Rattle.tour_plan.specs.Planned.{IsLawfulLog}
 use Rattle.driver_cli.specs.declared.answer.Answer.{Answer}
-use Rattle.command_words.specs.declared.command.Command.{Command}
-use Rattle.command_words.specs.Command.{IsSentence}
 use Rattle.driver_cli.specs.declared.answer.Halt.{Halt}
 use Rattle.driver_cli.specs.declared.answer.Halt.TheVariants as halt
 use Rattle.driver_cli.specs.declared.answer.Status.{Status}
 use Rattle.driver_cli.specs.declared.answer.Status.TheVariants.{Done, Usage, Refused, Infeasible, LogUnlawful, Spent, ReadFault, WriteFault, Memory, Rejected}
-use Rattle.driver_cli.specs.Answers.{AuditAnswers, GraphAnswers, BytesAnswers, CheckAnswers, PlanAnswers, PlanLeaves}
-use Rattle.driver_cli.specs.Fetched.{IsFileFault, IsTourFault, IsTourFetched, IsLogFault, IsLogFetched, IsFetched, AreInputsFetched}
-use Rattle.driver_cli.specs.Given.{GivesTour, GivesLog, GivesCert}
-use Rattle.driver_cli.specs.Inputs.{AreGiven, AreRead, AreLawful, IsUnlawful, InputAnswers, LawfulAnswers}
+use Rattle.driver_cli.specs.Answers.{AuditAnswers, GraphAnswers, BytesAnswers, CheckAnswers, CheckLeaves, PlanAnswers, PlanLeaves}
+use Rattle.driver_cli.specs.Fetched.{IsFileFault, IsFetched, AreInputsFetched}
+use Rattle.driver_cli.specs.Given.{GivesCert}
+use Rattle.driver_cli.specs.Inputs.{AreGiven, AreRead, AreLawful, IsUnlawful, InputAnswers, InputsLeave, LawfulAnswers}
 use Rattle.made_tours.specs.Drawn.{IsMade}
 use Rattle.driver_cli.specs.Make.{MakeUnput, MakeAnswers, MakeLeaves}
-use Rattle.driver_cli.specs.Sides.{ReadSide, read_side, WriteSide, write_side, IsKept, HasPut, HavePut, IsUnput, IsUnputBehind}
-use Rattle.driver_cli.specs.Steps.{Concludes, IsLawfulOr, Proves, Declines, IsProposed, IsFilePut, AreMadePut, Summarizes, CommandAnswers, CommandLeaves, WordsAnswers, WordsLeave, Settles}
+use Rattle.driver_cli.specs.Sides.{ReadSide, read_side, WriteSide, write_side, IsUnfailed, IsKept, HasPut, HavePut, IsUnput, IsUnputBehind}
+use Rattle.driver_cli.specs.Steps.{Concludes, IsLawfulOr, Proves, Declines, IsProposed, IsFilePut, AreMadePut, Summarizes, Settles}
 use Rattle.driver_cli.specs.Texts.{write_fault_text}
 
--- what is known of a step behind one that changed nothing and failed no fetch
-pub rebased : (P : ReadSide → Type 0) (files files' : Option Files) (before before' now : ℕ) (failed : Option Bytes) → files' ≡ files → before' ≡ before → P (read_side files' before' now failed) → P (read_side files before now failed)
-rebased P files files' before before' now failed e f p = subst (λ b. P (read_side files b now failed)) f (subst (λ x. P (read_side x before' now failed)) e p)
+-- ---- a step after one that put nothing
 
--- ---- the two files
+module _ {D : Type 0} (told : desk.Ghosts D) (a b c : D) where
+  -- what the fetches up to `c` meet and leave, from where so much is known
+  abbrev read_from : Option Files → ℕ → Option Bytes → ReadSide
+  read_from files before failed = record { files = files; faults_before = before; faults_now = told.read_faults c; failed_before = failed; failed_now = told.read_failed c }
 
-tour_stops : (t l : Bytes) (r : ReadSide) (status : Status) (text : Bytes) → IsFileFault t r status text ⊎ IsTourFault t r status text → InputAnswers t l r status text
-tour_stops t l r status text (inl h) = rw h.is (inl record { unread = h.unread; told = h.told })
-tour_stops t l r status text (inr h) = rw h.is (inl record { fault = h.fault; given = h.given; unfailed = h.unfailed; told = h.told })
+  -- and the puts
+  abbrev write_from : Option Files → ℕ → Option Bytes → WriteSide
+  write_from files before failed = record { files_before = files; files_now = told.files c; faults_before = before; faults_now = told.write_faults c; failed_before = failed; failed_now = told.write_failed c }
 
-log_stops : (t l : Bytes) (r : ReadSide) (tour : Tour) (status : Status) (text : Bytes) → GivesTour r.files t (Ok tour) → IsFileFault l r status text ⊎ IsLogFault tour l r status text → InputAnswers t l r status text
-log_stops t l r tour status text g (inl h) = rw h.is (inr record { tour = tour; tour_given = g; unread = h.unread; told = h.told })
-log_stops t l r tour status text g (inr h) = rw h.is (inr record { tour = tour; tour_given = g; fault = h.fault; given = h.given; unfailed = h.unfailed; told = h.told })
+  -- what is known of the fetches after `b` is known of those after `a`
+  pub rebased : (P : ReadSide → Type 0) → IsKept (write_side told a b) → IsUnfailed (read_side told a b) → P (read_side told b c) → P (read_side told a c)
+  rebased P kept u p =
+      subst (λ x. P (read_from (told.files a) (told.read_faults a) x)) u.failed
+      (subst (λ n. P (read_from (told.files a) n (told.read_failed b))) u.faults
+      (subst (λ x. P (read_from x (told.read_faults b) (told.read_failed b))) kept.files p))
 
-pub tour_halts : (t l : Bytes) (r : ReadSide) (e : Halt) → IsTourFetched t r (Err e) → AreInputsFetched t l r (Err e)
-tour_halts t l r (halt.Answered a) h = tour_stops t l r a.status a.text h
-tour_halts t l r halt.Memory h = tt
+  -- and of the puts
+  pub rewritten : (P : WriteSide → Type 0) → IsKept (write_side told a b) → P (write_side told b c) → P (write_side told a c)
+  rewritten P kept p =
+      subst (λ x. P (write_from (told.files a) (told.write_faults a) x)) kept.failed
+      (subst (λ n. P (write_from (told.files a) n (told.write_failed b))) kept.faults
+      (subst (λ x. P (write_from x (told.write_faults b) (told.write_failed b))) kept.files p))
 
-pub log_halts : (t l : Bytes) (r : ReadSide) (tour : Tour) (e : Halt) → GivesTour r.files t (Ok tour) → IsLogFetched tour l r (Err e) → AreInputsFetched t l r (Err e)
-log_halts t l r tour (halt.Answered a) g h = log_stops t l r tour a.status a.text g h
-log_halts t l r tour halt.Memory g h = tt
+  -- no fetch failed in both
+  pub still_unfailed : IsUnfailed (read_side told a b) → IsUnfailed (read_side told b c) → IsUnfailed (read_side told a c)
+  still_unfailed u v = record { faults = v.faults ∙ u.faults; failed = v.failed ∙ u.failed }
 
-pub both_read : (t l : Bytes) (r : ReadSide) (tour : Tour) (log : List Activity) → IsTour tour → GivesTour r.files t (Ok tour) → IsLogFetched tour l r (Ok log) → AreInputsFetched t l r (Ok (record { tour = tour; log = log }))
-both_read t l r tour log is g h = (is, h.0, record { given = record { tour_given = g; log_given = h.1 }; unfailed = h.2 })
+  -- what the two files give, they give to a later step too
+  pub still_given : (t l : Bytes) (tour : Tour) (log : List Activity) → AreGiven t l (read_side told a b) tour log → AreGiven t l (read_side told a c) tour log
+  still_given t l tour log g = record { tour_given = g.tour_given; log_given = g.log_given }
+
+  -- and what was read is read, where no later fetch failed
+  pub still_lawful : (t l : Bytes) (tour : Tour) (log : List Activity) → AreRead t l (read_side told a b) tour log → IsUnfailed (read_side told b c) → IsLawfulLog tour log → AreLawful t l (read_side told a c) tour log
+  still_lawful t l tour log read v lawful = record {
+    read = record { given = still_given t l tour log read.given; unfailed = still_unfailed read.unfailed v };
+    lawful = lawful;
+  }
 
 -- ---- up to a lawful log
 
@@ -83,13 +96,9 @@ lawful_audit t l r WriteFault text h = absurd h
 lawful_audit t l r Memory text h = absurd h
 lawful_audit t l r Rejected text h = absurd h
 
-pub audit_halts : (t l : Bytes) (r : ReadSide) (e : Halt) → AreInputsFetched t l r (Err e) → Concludes (Err e) (AuditAnswers t l r) ⊤
-audit_halts t l r (halt.Answered a) h = lawful_audit t l r a.status a.text (input_lawful t l r a.status a.text h)
-audit_halts t l r halt.Memory h = tt
-
-pub audit_unlawful : (t l : Bytes) (r : ReadSide) (tour : Tour) (log : List Activity) (e : Halt) → AreRead t l r tour log → IsLawfulOr tour log (Err e) → Concludes (Err e) (AuditAnswers t l r) ⊤
+pub audit_unlawful : (t l : Bytes) (r : ReadSide) (tour : Tour) (log : List Activity) (e : Halt) → AreRead t l r tour log → IsLawfulOr tour log (Err e) → Concludes (Err e) (AuditAnswers t l r) (InputsLeave t l r)
 audit_unlawful t l r tour log (halt.Answered a) read h = lawful_audit t l r a.status a.text (unlawful_lawful t l r tour log a.status a.text read h.0 h.1)
-audit_unlawful t l r tour log halt.Memory read h = tt
+audit_unlawful t l r tour log halt.Memory read h = inl read.unfailed
 
 -- ---- `graph`
 
@@ -105,9 +114,9 @@ input_graph t l r WriteFault text h = absurd h
 input_graph t l r Memory text h = absurd h
 input_graph t l r Rejected text h = absurd h
 
-pub graph_halts : (t l : Bytes) (r : ReadSide) (e : Halt) → AreInputsFetched t l r (Err e) → Concludes (Err e) (GraphAnswers t l r) ⊤
+pub graph_halts : (t l : Bytes) (r : ReadSide) (e : Halt) → AreInputsFetched t l r (Err e) → Concludes (Err e) (GraphAnswers t l r) (InputsLeave t l r)
 graph_halts t l r (halt.Answered a) h = input_graph t l r a.status a.text h
-graph_halts t l r halt.Memory h = tt
+graph_halts t l r halt.Memory h = h
 
 -- ---- `check`
 
@@ -123,20 +132,17 @@ lawful_check t l c r WriteFault text h = absurd h
 lawful_check t l c r Memory text h = absurd h
 lawful_check t l c r Rejected text h = absurd h
 
-pub check_halts : (t l c : Bytes) (r : ReadSide) (e : Halt) → AreInputsFetched t l r (Err e) → Concludes (Err e) (CheckAnswers t l c r) ⊤
-check_halts t l c r (halt.Answered a) h = lawful_check t l c r a.status a.text (input_lawful t l r a.status a.text h)
-check_halts t l c r halt.Memory h = tt
-
-pub check_unlawful : (t l c : Bytes) (r : ReadSide) (tour : Tour) (log : List Activity) (e : Halt) → AreRead t l r tour log → IsLawfulOr tour log (Err e) → Concludes (Err e) (CheckAnswers t l c r) ⊤
+pub check_unlawful : (t l c : Bytes) (r : ReadSide) (tour : Tour) (log : List Activity) (e : Halt) → AreRead t l r tour log → IsLawfulOr tour log (Err e) → Concludes (Err e) (CheckAnswers t l c r) (CheckLeaves t l c r)
 check_unlawful t l c r tour log (halt.Answered a) read h = lawful_check t l c r a.status a.text (unlawful_lawful t l r tour log a.status a.text read h.0 h.1)
-check_unlawful t l c r tour log halt.Memory read h = tt
+check_unlawful t l c r tour log halt.Memory read h = inl (inl read.unfailed)
 
 cert_unread : (t l c : Bytes) (r : ReadSide) (tour : Tour) (log : List Activity) (status : Status) (text : Bytes) → AreGiven t l r tour log → IsLawfulLog tour log → IsFileFault c r status text → CheckAnswers t l c r status text
 cert_unread t l c r tour log status text given lawful h = rw h.is (inr record { tour = tour; log = log; given = given; lawful = lawful; unread = h.unread; told = h.told })
 
-pub cert_halts : (t l c : Bytes) (r : ReadSide) (tour : Tour) (log : List Activity) (limit : ℕ) (e : Halt) → AreGiven t l r tour log → IsLawfulLog tour log → IsFetched c limit r (Err e) → Concludes (Err e) (CheckAnswers t l c r) ⊤
+pub cert_halts : (t l c : Bytes) (r : ReadSide) (tour : Tour) (log : List Activity) (limit : ℕ) (e : Halt) → AreGiven t l r tour log → IsLawfulLog tour log → IsFetched c limit r (Err e) → Concludes (Err e) (CheckAnswers t l c r) (CheckLeaves t l c r)
 cert_halts t l c r tour log limit (halt.Answered a) given lawful h = cert_unread t l c r tour log a.status a.text given lawful h
-cert_halts t l c r tour log limit halt.Memory given lawful h = tt
+cert_halts t l c r tour log limit halt.Memory given lawful (inl u) = inl (inl u)
+cert_halts t l c r tour log limit halt.Memory given lawful (inr h) = inr h
 
 pub cert_checked : (t l c : Bytes) (r : ReadSide) (tour : Tour) (log : List Activity) (bytes : Bytes) (status : Status) (text : Bytes) → AreLawful t l r tour log → GivesCert r.files c bytes → BytesAnswers tour log bytes status text → CheckAnswers t l c r status text
 cert_checked t l c r tour log bytes Done text lawful given h = record { tour = tour; log = log; lawful = lawful; bytes = bytes; given = given; answer = h }
@@ -167,7 +173,7 @@ lawful_plan t l c budget r w Rejected text kept h = absurd h
 module _ (t l c : Bytes) (budget : ℕ) (r : ReadSide) (w : WriteSide) where
   pub plan_halts : (e : Halt) → IsKept w → AreInputsFetched t l r (Err e) → Concludes (Err e) (PlanAnswers t l c budget r w) (PlanLeaves t l c r w)
   plan_halts (halt.Answered a) kept h = lawful_plan t l c budget r w a.status a.text kept (input_lawful t l r a.status a.text h)
-  plan_halts halt.Memory kept h = inl kept
+  plan_halts halt.Memory kept h = (h, inl kept)
 
   declined : (tour : Tour) (log : List Activity) (status : Status) (text : Bytes) → IsKept w → AreRead t l r tour log → Declines tour log budget status text → PlanAnswers t l c budget r w status text
   declined tour log Spent text kept read h = (kept, record { tour = tour; log = log; lawful = record { read = read; lawful = h.0 }; spent = h.1; told = h.2 })
@@ -183,15 +189,15 @@ module _ (t l c : Bytes) (budget : ℕ) (r : ReadSide) (w : WriteSide) where
 
   pub plan_declines : (tour : Tour) (log : List Activity) (e : Halt) → IsKept w → AreRead t l r tour log → IsProposed tour log budget (Err e) → Concludes (Err e) (PlanAnswers t l c budget r w) (PlanLeaves t l c r w)
   plan_declines tour log (halt.Answered a) kept read h = declined tour log a.status a.text kept read h
-  plan_declines tour log halt.Memory kept read h = inl kept
+  plan_declines tour log halt.Memory kept read h = (inl read.unfailed, inl kept)
 
   unput : (tour : Tour) (log : List Activity) (status : Status) (text : Bytes) → AreLawful t l r tour log → IsUnput w c → status ≡ WriteFault → text ≡ write_fault_text c → PlanAnswers t l c budget r w status text
   unput tour log status text lawful h is told = rw is record { tour = tour; log = log; lawful = lawful; unput = h; told = told }
 
   pub put_halts : (tour : Tour) (log : List Activity) (bytes : Bytes) (e : Halt) → AreLawful t l r tour log → IsFilePut c bytes w (Err e) → Concludes (Err e) (PlanAnswers t l c budget r w) (PlanLeaves t l c r w)
   put_halts tour log bytes (halt.Answered a) lawful h = unput tour log a.status a.text lawful h.0 h.1 h.2
-  put_halts tour log bytes halt.Memory lawful (inl kept) = inl kept
-  put_halts tour log bytes halt.Memory lawful (inr h) = inr (inr h)
+  put_halts tour log bytes halt.Memory lawful (inl kept) = (inl lawful.read.unfailed, inl kept)
+  put_halts tour log bytes halt.Memory lawful (inr h) = (inl lawful.read.unfailed, inr (inr h))
 
   pub proved : (tour : Tour) (log : List Activity) (bytes : Bytes) (status : Status) (text : Bytes) → AreLawful t l r tour log → Proves tour log bytes status text → HasPut w c bytes → PlanAnswers t l c budget r w status text
   proved tour log bytes Done text lawful h put = record { tour = tour; log = log; lawful = lawful; bytes = bytes; proof = h; put = put }
@@ -207,33 +213,33 @@ module _ (t l c : Bytes) (budget : ℕ) (r : ReadSide) (w : WriteSide) where
 
 -- ---- `make`
 
--- two puts, one behind the other
+-- two puts, one after the other
 mapped_twice : (f g : Files → Files) (files : Option Files) → option_map g (option_map f files) ≡ option_map (λ x. g (f x)) files
 mapped_twice f g None = refl
 mapped_twice f g (Some files) = refl
 
-module _ (number : ℕ) (t l : Bytes) (files files' files2 : Option Files) (before before' now : ℕ) (failed failed' failed2 : Option Bytes) where
+module _ (number : ℕ) (t l : Bytes) {D : Type 0} (told : desk.Ghosts D) (before between now : D) where
   abbrev first_put : WriteSide
-  first_put = write_side files files' before before' failed failed'
+  first_put = write_side told before between
 
   abbrev second_put : WriteSide
-  second_put = write_side files' files2 before' now failed' failed2
+  second_put = write_side told between now
 
   abbrev both_puts : WriteSide
-  both_puts = write_side files files2 before now failed failed2
+  both_puts = write_side told before now
 
   both_put : (a b : Bytes) → HasPut first_put t a → HasPut second_put l b → HavePut both_puts t a l b
   both_put a b p q = record {
-    files = q.files ∙ ap (option_map (λ x. insert x l b)) p.files ∙ mapped_twice (λ x. insert x t a) (λ x. insert x l b) files;
+    files = q.files ∙ ap (option_map (λ x. insert x l b)) p.files ∙ mapped_twice (λ x. insert x t a) (λ x. insert x l b) (told.files before);
     faults = q.faults ∙ p.faults;
     failed = q.failed ∙ p.failed;
   }
 
-  unput_behind : (a : Bytes) → HasPut first_put t a → IsUnput second_put l → IsUnputBehind both_puts t a l
-  unput_behind a p q = record {
-    rose = subst (λ n. Rose n now) p.faults q.rose;
+  unput_after : (a : Bytes) → HasPut first_put t a → IsUnput second_put l → IsUnputBehind both_puts t a l
+  unput_after a p q = record {
+    rose = subst (λ n. Rose n (told.write_faults now)) p.faults q.rose;
     failed = q.failed;
-    others = subst (λ x. PutsOthers x files2 l) p.files q.others;
+    others = subst (λ x. PutsOthers x (told.files now) l) p.files q.others;
   }
 
   first_alone : (a : Bytes) → HasPut first_put t a → IsKept second_put → HasPut both_puts t a
@@ -241,9 +247,9 @@ module _ (number : ℕ) (t l : Bytes) (files files' files2 : Option Files) (befo
 
   made_halts : (end : Result Unit Halt) → HasPut first_put t (tour_made number) → IsFilePut l log_made second_put end → AreMadePut number t l both_puts end
   made_halts (Ok done) p q = both_put (tour_made number) log_made p q
-  made_halts (Err (halt.Answered a)) p q = (q.1, inr (unput_behind (tour_made number) p q.0, q.2))
+  made_halts (Err (halt.Answered a)) p q = (q.1, inr (unput_after (tour_made number) p q.0, q.2))
   made_halts (Err halt.Memory) p (inl q) = inr (inl (first_alone (tour_made number) p q))
-  made_halts (Err halt.Memory) p (inr q) = inr (inr (inr (inr (unput_behind (tour_made number) p q))))
+  made_halts (Err halt.Memory) p (inr q) = inr (inr (inr (inr (unput_after (tour_made number) p q))))
 
   pub second_halts : (a b : Bytes) (end : Result Unit Halt) → a ≡ tour_made number → b ≡ log_made → HasPut first_put t a → IsFilePut l b second_put end → AreMadePut number t l both_puts end
   second_halts a b end e f p q = made_halts end (subst (HasPut first_put t) e p) (subst (λ x. IsFilePut l x second_put end) f q)
@@ -280,19 +286,11 @@ module _ (number : ℕ) (t l : Bytes) (w : WriteSide) where
 
 -- ---- all commands
 
--- nothing is put
-pub untouched : (files files' : Option Files) (before now : ℕ) (failed failed' : Option Bytes) → files' ≡ files → now ≡ before → failed' ≡ failed → IsKept (write_side files files' before now failed failed')
-untouched files files' before now failed failed' e f g = record { files = e; faults = f; failed = g }
-
-pub keeping : (answers : Status → Bytes → Type 0) (w : WriteSide) (end : Result Answer Halt) → IsKept w → Concludes end answers ⊤ → Concludes end (λ status text. IsKept w × answers status text) (IsKept w)
-keeping answers w (Ok a) kept h = (kept, h)
-keeping answers w (Err (halt.Answered a)) kept h = (kept, h)
-keeping answers w (Err halt.Memory) kept h = kept
-
-pub words_run : (words : List Bytes) (command : Command) (r : ReadSide) (w : WriteSide) (end : Result Answer Halt) → IsSentence words command → Concludes end (CommandAnswers command r w) (CommandLeaves command r w) → Concludes end (WordsAnswers words r w) (WordsLeave words r w)
-words_run words command r w (Ok a) is h = inr (command, is, h)
-words_run words command r w (Err (halt.Answered a)) is h = inr (command, is, h)
-words_run words command r w (Err halt.Memory) is h = inr (command, is, h)
+-- what holds beside each answer of a command
+pub beside : (fact : Type 0) (answers : Status → Bytes → Type 0) (memory : Type 0) (end : Result Answer Halt) → fact → Concludes end answers memory → Concludes end (λ status text. fact × answers status text) (fact × memory)
+beside fact answers memory (Ok a) known h = (known, h)
+beside fact answers memory (Err (halt.Answered a)) known h = (known, h)
+beside fact answers memory (Err halt.Memory) known h = (known, h)
 
 -- ---- what a `?` hands on
 
@@ -302,18 +300,6 @@ handed_on (Err x) e answers memory h p = subst (λ y. Concludes (Err y) answers 
 
 pub memory_on : (end : Result Answer Halt) (answers : Status → Bytes → Type 0) (memory : Type 0) → IsErrAnd end (λ x. x ≡ halt.Memory) → memory → Concludes end answers memory
 memory_on end answers memory h m = handed_on end halt.Memory answers memory h m
-
--- the two files are given to a later step too
-pub still_given : (t l : Bytes) (r r' : ReadSide) (tour : Tour) (log : List Activity) → r.files ≡ r'.files → AreGiven t l r tour log → AreGiven t l r' tour log
-still_given t l r r' tour log same g = record {
-  tour_given = subst (λ f. GivesTour f t (Ok tour)) same g.tour_given;
-  log_given = subst (λ f. GivesLog f l tour (Ok log)) same g.log_given;
-}
-
--- what is known of a put behind steps that put nothing
-pub rewritten : (P : WriteSide → Type 0) (files files' files2 : Option Files) (before before' now : ℕ) (failed failed' failed2 : Option Bytes) → files' ≡ files → before' ≡ before → failed' ≡ failed → P (write_side files' files2 before' now failed' failed2) → P (write_side files files2 before now failed failed2)
-rewritten P files files' files2 before before' now failed failed' failed2 e f g p =
-    subst (λ x. P (write_side files files2 before now x failed2)) g (subst (λ n. P (write_side files files2 n now failed' failed2)) f (subst (λ x. P (write_side x files2 before' now failed' failed2)) e p))
 
 -- ---- the answer that is sent
 

@@ -17,7 +17,7 @@ use Rattle.rule_core.specs.Replay.{IsFirstUnlawful}
 use Rattle.rule_readings.specs.Broken.{AreBroken}
 use Rattle.tour_model.specs.declared.limits.TheConstants.{LATEST_START}
 use Rattle.tour_model.specs.declared.tour.Tour.{Tour}
-use Rattle.tour_model.specs.LengthLaws.{begins_sooner, log_timed}
+use Rattle.tour_model.specs.Laws.LengthLaws.{begins_sooner, log_timed}
 use Rattle.tour_model.specs.Schedule.{log_start}
 use Rattle.tour_model.specs.Tour.{IsTour}
 use Rattle.driver_cli.specs.Inputs.{AreBrokenUpTo}

@@ -3,7 +3,7 @@ use Rattle.std.specs.Prelude.{◌≡◌, ◌⊎◌, ℕ, ◌*◌, ◌≤◌, ◌
 use Rattle.duty_core.specs.declared.activity.Activity.{Activity}
 use Rattle.tour_model.specs.declared.schedule.Schedule.{Schedule}
 use Rattle.tour_model.specs.declared.tour.Tour.{Tour}
-use Rattle.tour_model.specs.Schedule.{duration, log_start, IsSolutionWith, IsShortest, IsInfeasible}
+use Rattle.tour_model.specs.Schedule.{log_start, IsSolutionWith, IsShortest, IsInfeasible}
 use Rattle.cert_text.specs.declared.cert.Cert.{Cert}
 use Rattle.cert_text.specs.declared.cert.CertKind.TheVariants as kind
 use Rattle.cert_text.specs.declared.limits.TheConstants.{CERT_LIMIT}
@@ -11,6 +11,7 @@ use Rattle.cert_text.specs.Cert.{acts_of_runs}
 use Rattle.cert_checker.specs.declared.verdict.Reason.{Reason}
 use Rattle.cert_checker.specs.declared.verdict.Reason.TheVariants.{TooBig}
 use Rattle.cert_checker.specs.Checked.{IsCertificate, IsWhy}
+use Rattle.cert_checker.specs.Verdicts.{IsOwnShortest}
 use Rattle.log_graph.specs.Graph.{IsGraph}
 use Rattle.tour_plan.specs.Planned.{IsLawfulLog, IsSpent}
 use Rattle.outside.specs.Outside.{Bytes}
@@ -18,11 +19,11 @@ use Rattle.report_text.specs.Report.{IsReport}
 use Rattle.driver_cli.specs.declared.answer.Status.{Status}
 use Rattle.driver_cli.specs.declared.answer.Status.TheVariants.{Done, Usage, Infeasible, Spent, ReadFault, WriteFault, Rejected}
 use Rattle.driver_cli.specs.Given.{GivesCert}
-use Rattle.driver_cli.specs.Inputs.{AreGiven, AreRead, AreLawful, InputAnswers, LawfulAnswers}
+use Rattle.driver_cli.specs.Inputs.{AreGiven, AreRead, AreLawful, InputAnswers, InputsLeave, LawfulAnswers}
 use Rattle.driver_cli.specs.Sides.{ReadSide, WriteSide, IsUnread, IsKept, HasPut, IsUnput}
 use Rattle.driver_cli.specs.Texts.{usage_text, read_fault_text, write_fault_text, lawful_text, infeasible_text, spent_text, accepted_shortest_text, accepted_infeasible_text, rejected_text}
 
--- ---- words that are no sentence
+-- ---- words that are no command
 
 abbrev pub UsageAnswers : Status → Bytes → Type 0
 UsageAnswers Usage text = text ≡ usage_text
@@ -57,16 +58,14 @@ GraphAnswers tour_name log_name r status text = InputAnswers tour_name log_name 
 
 -- ---- `check`
 
--- The bytes are a valid certificate of kind shortest, and a shortest schedule takes as many steps as it says.
+-- The bytes are a valid certificate of kind shortest; after the log its own schedule is lawful with its marks and a shortest one, and takes as many steps as it says.
 pub record IsAcceptedShortest (tour : Tour) (log : List Activity) (bytes text : Bytes) : Type 0 where
   pub cert : Cert
   pub is : IsCertificate tour log bytes cert
   pub kind : cert.kind ≡ kind.Shortest
   pub steps : ℕ
   pub target : cert.target ≡ Some steps
-  pub schedule : List Activity
-  pub shortest : IsShortest tour log schedule
-  pub takes : duration schedule ≡ steps
+  pub own : IsOwnShortest tour log cert steps
   pub told : text ≡ accepted_shortest_text (steps * tour.grid)
 
 -- The bytes are a valid certificate of kind infeasible, and there is no solution.
@@ -90,7 +89,7 @@ pub record IsInvalid (tour : Tour) (log : List Activity) (bytes text : Bytes) : 
   pub why : IsWhy tour log bytes line reason
   pub told : text ≡ rejected_text line reason
 
--- what the bytes of a certificate's file are answered, behind a lawful log
+-- what the bytes of a certificate's file are answered, after a lawful log
 abbrev pub BytesAnswers : Tour → List Activity → Bytes → Status → Bytes → Type 0
 BytesAnswers tour log bytes Done text = (length bytes ≤ CERT_LIMIT) × (IsAcceptedShortest tour log bytes text ⊎ IsAcceptedInfeasible tour log bytes text)
 BytesAnswers tour log bytes Rejected text = IsTooLong bytes text ⊎ IsInvalid tour log bytes text
@@ -120,6 +119,10 @@ CheckAnswers tour_name log_name cert_name r Rejected text = CertChecked tour_nam
 CheckAnswers tour_name log_name cert_name r ReadFault text = LawfulAnswers tour_name log_name r ReadFault text ⊎ CertUnread tour_name log_name cert_name r text
 CheckAnswers tour_name log_name cert_name r status text = LawfulAnswers tour_name log_name r status text
 
+-- What `check` leaves where memory runs out: no fetch failed, or that of one of its files did.
+abbrev pub CheckLeaves : Bytes → Bytes → Bytes → ReadSide → Type 0
+CheckLeaves tour_name log_name cert_name r = InputsLeave tour_name log_name r ⊎ IsUnread r cert_name
+
 -- ---- `plan`
 
 -- The bytes are a certificate that `check` accepts, of this kind.
@@ -131,7 +134,7 @@ pub record IsAcceptable (tour : Tour) (log : List Activity) (bytes : Bytes) (cer
 abbrev pub schedule_of : Cert → Schedule
 schedule_of cert = record { steps = acts_of_runs cert.schedule; marks = cert.marks }
 
--- The bytes are such a certificate of kind shortest; behind the log its schedule is lawful with its marks and a shortest one; and the text reports it.
+-- The bytes are such a certificate of kind shortest; after the log its schedule is lawful with its marks and a shortest one; and the text reports it.
 pub record IsShortestProof (tour : Tour) (log : List Activity) (bytes text : Bytes) : Type 0 where
   pub cert : Cert
   pub acceptable : IsAcceptable tour log bytes cert
@@ -140,7 +143,7 @@ pub record IsShortestProof (tour : Tour) (log : List Activity) (bytes text : Byt
   pub shortest : IsShortest tour log (acts_of_runs cert.schedule)
   pub told : IsReport tour log (schedule_of cert) text
 
--- The bytes are such a certificate of kind infeasible, and behind the log no schedule serves the tour lawfully.
+-- The bytes are such a certificate of kind infeasible, and after the log no schedule serves the tour lawfully.
 pub record IsInfeasibleProof (tour : Tour) (log : List Activity) (bytes text : Bytes) : Type 0 where
   pub cert : Cert
   pub acceptable : IsAcceptable tour log bytes cert
@@ -157,7 +160,7 @@ pub record PlanDone (tour_name log_name cert_name : Bytes) (r : ReadSide) (w : W
   pub proof : IsShortestProof tour log bytes text
   pub put : HasPut w cert_name bytes
 
--- Infeasible: the log is lawful, behind it there is no solution, and the certificate's file holds a proof of that.
+-- Infeasible: the log is lawful, after it there is no solution, and the certificate's file holds a proof of that.
 pub record PlanInfeasible (tour_name log_name cert_name : Bytes) (r : ReadSide) (w : WriteSide) (text : Bytes) : Type 0 where
   pub tour : Tour
   pub log : List Activity
@@ -166,7 +169,7 @@ pub record PlanInfeasible (tour_name log_name cert_name : Bytes) (r : ReadSide) 
   pub proof : IsInfeasibleProof tour log bytes text
   pub put : HasPut w cert_name bytes
 
--- Spent: the log is lawful, and behind it the search kept as many labels as the budget allows.
+-- Spent: the log is lawful, and after it the search kept as many labels as the budget allows.
 pub record PlanSpent (tour_name log_name : Bytes) (budget : ℕ) (r : ReadSide) (text : Bytes) : Type 0 where
   pub tour : Tour
   pub log : List Activity
@@ -200,6 +203,7 @@ pub record CertIsPut (tour_name log_name cert_name : Bytes) (r : ReadSide) (w : 
   pub acceptable : IsAcceptable tour log bytes cert
   pub put : HasPut w cert_name bytes
 
--- What `plan` leaves where memory is wanting: all files as they were, or such a certificate put, or its put failed.
+-- What `plan` leaves where memory runs out: no fetch failed, or that of one of its files did; and all files are as they were, or such a certificate is put, or its put failed.
 abbrev pub PlanLeaves : Bytes → Bytes → Bytes → ReadSide → WriteSide → Type 0
-PlanLeaves tour_name log_name cert_name r w = IsKept w ⊎ (CertIsPut tour_name log_name cert_name r w ⊎ IsUnput w cert_name)
+PlanLeaves tour_name log_name cert_name r w =
+    InputsLeave tour_name log_name r × (IsKept w ⊎ (CertIsPut tour_name log_name cert_name r w ⊎ IsUnput w cert_name))

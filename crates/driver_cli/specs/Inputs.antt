@@ -98,3 +98,7 @@ LawfulAnswers tour_name log_name r Refused text = TourRefused tour_name r text �
 LawfulAnswers tour_name log_name r ReadFault text = TourUnread tour_name r text ⊎ LogUnread tour_name log_name r text
 LawfulAnswers tour_name log_name r LogUnlawful text = LogIsUnlawful tour_name log_name r text
 LawfulAnswers tour_name log_name r status text = ⊥
+
+-- What reading the two files leaves where memory runs out: no fetch failed, or that of one of them did.
+abbrev pub InputsLeave : Bytes → Bytes → ReadSide → Type 0
+InputsLeave tour_name log_name r = IsUnfailed r ⊎ (IsUnread r tour_name ⊎ IsUnread r log_name)

@@ -11,3 +11,4 @@ pub mod Make
 pub mod Steps
 pub mod Exact
 pub mod Ends
+pub mod Program

@@ -22,7 +22,7 @@ pub record IsMadeShortest (number : ℕ) (tour : Tour) (log : List Activity) (te
   pub shortest : IsShortest tour log schedule
   pub told : text ≡ made_shortest_text number (length tour.stops) (duration schedule * tour.grid)
 
--- Behind the log no schedule serves the tour lawfully.
+-- After the log no schedule serves the tour lawfully.
 pub record IsMadeInfeasible (number : ℕ) (tour : Tour) (log : List Activity) (text : Bytes) : Type 0 where
   pub infeasible : IsInfeasible tour log
   pub told : text ≡ made_infeasible_text number (length tour.stops)
@@ -42,7 +42,7 @@ pub record IsPutAndTold (number : ℕ) (tour_name log_name : Bytes) (w : WriteSi
   pub put : HavePut w tour_name (tour_made number) log_name log_made
   pub told : tells tour log
 
--- The put of the tour failed; or that of the log did, behind it.
+-- The put of the tour failed; or that of the log did, after it.
 abbrev pub MakeUnput : ℕ → Bytes → Bytes → WriteSide → Bytes → Type 0
 MakeUnput number tour_name log_name w text =
     (IsUnput w tour_name × (text ≡ write_fault_text tour_name)) ⊎ (IsUnputBehind w tour_name (tour_made number) log_name × (text ≡ write_fault_text log_name))
@@ -54,7 +54,7 @@ MakeAnswers number tour_name log_name w Spent text = IsPutAndTold number tour_na
 MakeAnswers number tour_name log_name w WriteFault text = MakeUnput number tour_name log_name w text
 MakeAnswers number tour_name log_name w status text = ⊥
 
--- What `make` leaves where memory is wanting: all files as they were, or the tour put, or both put, or a put that failed.
+-- What `make` leaves where memory runs out: all files as they were, or the tour put, or both put, or a put that failed.
 abbrev pub MakeLeaves : ℕ → Bytes → Bytes → WriteSide → Type 0
 MakeLeaves number tour_name log_name w =
     IsKept w

@@ -2,19 +2,19 @@
 use Rattle.std.specs.Prelude.{◌≡◌, ℕ, Option, None, Some}
 use Rattle.std.specs.FinMap.{get, insert}
 use Rattle.std.specs.Option.{option_map}
+use Rattle.outside.specs.declared.desk.Desk as desk
+use Rattle.outside.specs.declared.sink.Sink as sink
 use Rattle.outside.specs.Outside.{Bytes, Files, Rose, PutsOthers}
 
--- What the fetches of a call meet: the files of the desk before the call, how many fetches had failed before and have now, and the name of the last one.
+-- What the fetches of a call meet and leave: the files of the desk before the call, how many fetches had failed and have, and the names of the last ones.
 pub record ReadSide : Type 0 where
   pub files : Option Files
   pub faults_before : ℕ
   pub faults_now : ℕ
+  pub failed_before : Option Bytes
   pub failed_now : Option Bytes
 
-abbrev pub read_side : Option Files → ℕ → ℕ → Option Bytes → ReadSide
-read_side files before now failed = record { files = files; faults_before = before; faults_now = now; failed_now = failed }
-
--- What the puts of a call leave: the files of the desk before and now, how many puts had failed and have, and the name of the last one.
+-- What the puts of a call leave: the files of the desk before and now, how many puts had failed and have, and the names of the last ones.
 pub record WriteSide : Type 0 where
   pub files_before : Option Files
   pub files_now : Option Files
@@ -23,22 +23,51 @@ pub record WriteSide : Type 0 where
   pub failed_before : Option Bytes
   pub failed_now : Option Bytes
 
-abbrev pub write_side : Option Files → Option Files → ℕ → ℕ → Option Bytes → Option Bytes → WriteSide
-write_side files files' before now failed failed' = record { files_before = files; files_now = files'; faults_before = before; faults_now = now; failed_before = failed; failed_now = failed' }
-
--- What a call sends: the bytes of the sink before and now, and how many sends had failed and have.
+-- What a call sends: the bytes of the sink before and now, how many sends there had been and have, and how many had failed and have.
 pub record SinkSide : Type 0 where
   pub written_before : Option Bytes
   pub written_now : Option Bytes
+  pub sends_before : ℕ
+  pub sends_now : ℕ
   pub faults_before : ℕ
   pub faults_now : ℕ
 
-abbrev pub sink_side : Option Bytes → Option Bytes → ℕ → ℕ → SinkSide
-sink_side old new before now = record { written_before = old; written_now = new; faults_before = before; faults_now = now }
+-- what a desk tells of itself before and after some calls
+module _ {D : Type 0} (told : desk.Ghosts D) (before now : D) where
+  abbrev pub read_side : ReadSide
+  read_side = record {
+    files = told.files before;
+    faults_before = told.read_faults before;
+    faults_now = told.read_faults now;
+    failed_before = told.read_failed before;
+    failed_now = told.read_failed now;
+  }
 
--- No fetch failed.
-abbrev pub IsUnfailed : ReadSide → Type 0
-IsUnfailed r = r.faults_now ≡ r.faults_before
+  abbrev pub write_side : WriteSide
+  write_side = record {
+    files_before = told.files before;
+    files_now = told.files now;
+    faults_before = told.write_faults before;
+    faults_now = told.write_faults now;
+    failed_before = told.write_failed before;
+    failed_now = told.write_failed now;
+  }
+
+-- what a sink tells
+abbrev pub sink_side : {S : Type 0} → sink.Ghosts S → S → S → SinkSide
+sink_side told before now = record {
+  written_before = told.written before;
+  written_now = told.written now;
+  sends_before = told.sends before;
+  sends_now = told.sends now;
+  faults_before = told.faults before;
+  faults_now = told.faults now;
+}
+
+-- No fetch failed: what failed before stays.
+pub record IsUnfailed (r : ReadSide) : Type 0 where
+  pub faults : r.faults_now ≡ r.faults_before
+  pub failed : r.failed_now ≡ r.failed_before
 
 -- The fetch of the file of this name failed.
 pub record IsUnread (r : ReadSide) (name : Bytes) : Type 0 where

@@ -12,22 +12,22 @@ use Rattle.driver_cli.specs.declared.answer.Status.{Status}
 use Rattle.driver_cli.specs.declared.answer.Status.TheVariants.{Done, Infeasible, LogUnlawful, Spent, WriteFault}
 use Rattle.command_words.specs.declared.command.Command.{Command}
 use Rattle.command_words.specs.declared.command.Command.TheVariants.{Plan, Check, Audit, Graph, Make}
-use Rattle.command_words.specs.Command.{IsSentence, IsNoSentence}
+use Rattle.command_words.specs.Command.{IsCommandLine, IsNoCommandLine}
 use Rattle.report_text.specs.Made.{tour_made, log_made}
 use Rattle.driver_cli.specs.declared.plan.Proposal.{Proposal}
-use Rattle.driver_cli.specs.Answers.{UsageAnswers, AuditAnswers, GraphAnswers, CheckAnswers, IsShortestProof, IsInfeasibleProof, PlanAnswers, PlanLeaves}
-use Rattle.driver_cli.specs.Inputs.{IsUnlawful}
+use Rattle.driver_cli.specs.Answers.{UsageAnswers, AuditAnswers, GraphAnswers, CheckAnswers, CheckLeaves, IsShortestProof, IsInfeasibleProof, PlanAnswers, PlanLeaves}
+use Rattle.driver_cli.specs.Inputs.{IsUnlawful, InputsLeave}
 use Rattle.driver_cli.specs.Make.{IsMadeShortest, IsMadeInfeasible, IsMadeSpent, MakeUnput, MakeAnswers, MakeLeaves}
-use Rattle.driver_cli.specs.Sides.{ReadSide, WriteSide, IsKept, HasPut, HavePut, IsUnput}
+use Rattle.driver_cli.specs.Sides.{ReadSide, WriteSide, IsUnfailed, IsKept, HasPut, HavePut, IsUnput}
 use Rattle.driver_cli.specs.Texts.{spent_text, write_fault_text}
 
--- The end of a command is an answer of this table; or memory was wanting, and this holds.
+-- The end of a command is an answer of this table; or memory ran out, and this holds.
 abbrev pub Concludes : Result Answer Halt → (Status → Bytes → Type 0) → Type 0 → Type 0
 Concludes (Ok a) answers memory = answers a.status a.text
 Concludes (Err (halt.Answered a)) answers memory = answers a.status a.text
 Concludes (Err halt.Memory) answers memory = memory
 
--- The answer with which a command ended, early or not; none where memory was wanting.
+-- The answer with which a command ended, early or not; none where memory ran out.
 abbrev pub Settles : Result Answer Halt → Result Answer NoMemory → Type 0
 Settles (Ok a) settled = settled ≡ Ok a
 Settles (Err (halt.Answered a)) settled = settled ≡ Ok a
@@ -57,13 +57,13 @@ IsProposed tour log budget (Ok p) = IsLawfulLog tour log × Proves tour log p.ce
 IsProposed tour log budget (Err (halt.Answered a)) = Declines tour log budget a.status a.text
 IsProposed tour log budget (Err halt.Memory) = ⊤
 
--- The file was put; or the put failed, and that is answered; or memory was wanting, before or behind such a failure.
+-- The file was put; or the put failed, and that is answered; or memory ran out, before or after such a failure.
 abbrev pub IsFilePut : Bytes → Bytes → WriteSide → Result Unit Halt → Type 0
 IsFilePut name bytes w (Ok done) = HasPut w name bytes
 IsFilePut name bytes w (Err (halt.Answered a)) = IsUnput w name × (a.status ≡ WriteFault) × (a.text ≡ write_fault_text name)
 IsFilePut name bytes w (Err halt.Memory) = IsKept w ⊎ IsUnput w name
 
--- Both files of a made tour were put, the tour's first; or a put failed, and that is answered; or memory was wanting.
+-- Both files of a made tour were put, the tour's first; or a put failed, and that is answered; or memory ran out.
 abbrev pub AreMadePut : ℕ → Bytes → Bytes → WriteSide → Result Unit Halt → Type 0
 AreMadePut number tour_name log_name w (Ok done) = HavePut w tour_name (tour_made number) log_name log_made
 AreMadePut number tour_name log_name w (Err (halt.Answered a)) = (a.status ≡ WriteFault) × MakeUnput number tour_name log_name w a.text
@@ -84,22 +84,22 @@ CommandAnswers (Plan tour log cert budget) r w status text = PlanAnswers tour lo
 CommandAnswers (Check tour log cert) r w status text = IsKept w × CheckAnswers tour log cert r status text
 CommandAnswers (Audit tour log) r w status text = IsKept w × AuditAnswers tour log r status text
 CommandAnswers (Graph tour log) r w status text = IsKept w × GraphAnswers tour log r status text
-CommandAnswers (Make number tour log) r w status text = MakeAnswers number tour log w status text
+CommandAnswers (Make number tour log) r w status text = IsUnfailed r × MakeAnswers number tour log w status text
 
--- what a command leaves where memory is wanting
+-- what a command leaves where memory runs out
 abbrev pub CommandLeaves : Command → ReadSide → WriteSide → Type 0
 CommandLeaves (Plan tour log cert budget) r w = PlanLeaves tour log cert r w
-CommandLeaves (Check tour log cert) r w = IsKept w
-CommandLeaves (Audit tour log) r w = IsKept w
-CommandLeaves (Graph tour log) r w = IsKept w
-CommandLeaves (Make number tour log) r w = MakeLeaves number tour log w
+CommandLeaves (Check tour log cert) r w = IsKept w × CheckLeaves tour log cert r
+CommandLeaves (Audit tour log) r w = IsKept w × InputsLeave tour log r
+CommandLeaves (Graph tour log) r w = IsKept w × InputsLeave tour log r
+CommandLeaves (Make number tour log) r w = IsUnfailed r × MakeLeaves number tour log w
 
--- The words are no sentence; or they are one of this command, which answers so.
+-- The words are no command; or they are one of this command, which answers so.
 abbrev pub WordsAnswers : List Bytes → ReadSide → WriteSide → Status → Bytes → Type 0
 WordsAnswers words r w status text =
-    (IsNoSentence words × IsKept w × UsageAnswers status text)
-    ⊎ ((command : Command) × IsSentence words command × CommandAnswers command r w status text)
+    (IsNoCommandLine words × IsUnfailed r × IsKept w × UsageAnswers status text)
+    ⊎ ((command : Command) × IsCommandLine words command × CommandAnswers command r w status text)
 
--- what is left where memory is wanting: all as it was, or what such a command leaves
+-- what is left where memory runs out: all as it was, or what such a command leaves
 abbrev pub WordsLeave : List Bytes → ReadSide → WriteSide → Type 0
-WordsLeave words r w = IsKept w ⊎ ((command : Command) × IsSentence words command × CommandLeaves command r w)
+WordsLeave words r w = (IsUnfailed r × IsKept w) ⊎ ((command : Command) × IsCommandLine words command × CommandLeaves command r w)

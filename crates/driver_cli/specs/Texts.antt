@@ -10,7 +10,7 @@ use Rattle.cert_checker.specs.declared.verdict.Reason.TheVariants.{TooBig, Gramm
 use Rattle.driver_cli.specs.FaultText.{tour_fault_text, log_fault_text}
 use Rattle.text_parts.specs.Parts.{Part, Said, Time, clock_text}
 
--- of words that are no sentence
+-- of words that are no command
 abbrev pub usage_text : List ℕ
 usage_text = codes "usage: driver plan TOUR LOG CERT [--budget N]\n       driver check TOUR LOG CERT\n       driver audit TOUR LOG\n       driver graph TOUR LOG\n       driver make N TOUR LOG\n"
 

@@ -17,11 +17,11 @@ pub enum Status {
     /// `audit` found the log lawful, `graph` sent its graph, and `make` put a tour and found a shortest
     /// schedule.
     Done = 0,
-    /// The words are no sentence.
+    /// The words are no command.
     Usage = 1,
     /// The tour's file or the log's holds none.
     Refused = 2,
-    /// Behind the log the tour has no schedule; `plan` put a certificate of that.
+    /// After the log the tour has no schedule; `plan` put a certificate of that.
     Infeasible = 3,
     /// The log breaks a rule.
     LogUnlawful = 4,
@@ -83,7 +83,7 @@ impl From<NoMemory> for Halt {
 /// Sends the answer's text in one send, and gives its status. `WriteFault` where the sink fails,
 /// `Memory` where it has no memory.
 pub fn send_answer<S: Sink>(answer: &Answer, out: &mut S) -> Status
-    ensures { Sent answer.now.status answer.now.text (sink_side (S.written out.old) (S.written out.new) (S.faults out.old) (S.faults out.new)) result }
+    ensures { Sent answer.now.status answer.now.text (sink_side S.Sink out.old out.new) result }
 {
     match out.send(answer.text.as_bytes()) {
         Ok(()) => answer.status,

@@ -1,12 +1,12 @@
 //! Whether the log of a tour is lawful.
-ghost use Rattle.std.specs.Prelude.{◌≡◌, ◌*◌, ◌+◌, ◌≤◌, ◌<◌, [], ◌∷◌, ◌++◌, length, take, IfOk, OnOk, ⊤};
+ghost use Rattle.std.specs.Prelude.{◌≡◌, ◌*◌, ◌+◌, ◌≤◌, ◌<◌, [], ◌∷◌, ◌++◌, length, take, IfOk, OnOk};
 ghost use Rattle.duty_core.specs.Params.{unit_minutes};
 ghost use Rattle.duty_core.specs.declared.limits.TheConstants.{LONGEST_LOG, LONGEST_HISTORY};
 ghost use Rattle.rule_core.specs.Replay.{IsFirstUnlawful};
 ghost use Rattle.tour_model.specs.Schedule.{log_start};
 ghost use Rattle.tour_model.specs.Tour.{IsTour};
-ghost use Rattle.driver_cli.specs.Inputs.{IsUnlawful, AreBrokenUpTo};
-ghost use Rattle.driver_cli.specs.Sides.{read_side};
+ghost use Rattle.driver_cli.specs.Inputs.{IsUnlawful, AreBrokenUpTo, InputsLeave};
+ghost use Rattle.driver_cli.specs.Sides.{read_side, write_side, IsKept};
 ghost use Rattle.driver_cli.specs.Answers.{AuditAnswers};
 ghost use Rattle.driver_cli.specs.Steps.{Concludes, IsLawfulOr};
 
@@ -31,7 +31,7 @@ pub fn log_start(tour: &Tour, log: &Timeline) -> Minute
     tour.start - unit_of(tour.params) * log.len()
 }
 
-/// Puts one unit behind a history that has room for it.
+/// Puts one unit after a history that has room for it.
 fn append(history: &mut Timeline, act: Activity) -> Result<(), NoMemory>
     requires { length history.old < LONGEST_HISTORY }
     ensures { OnOk result (history.new ≡ history.old ++ act ∷ []) }
@@ -96,12 +96,10 @@ pub fn require_lawful(alloc: Global, inputs: &Inputs) -> Result<(), Halt>
     }
 }
 
-/// Says whether the log is lawful, behind the refusals of the two files.
+/// Says whether the log is lawful, after the refusals of the two files.
 pub fn audit<D: Desk>(alloc: Global, tour: &Word, log: &Word, desk: &mut D) -> Result<Answer, Halt>
-    ensures files { D.files desk.new ≡ D.files desk.old }
-    ensures write_faults { D.write_faults desk.new ≡ D.write_faults desk.old }
-    ensures write_failed { D.write_failed desk.new ≡ D.write_failed desk.old }
-    ensures answer { Concludes result (AuditAnswers tour.now log.now (read_side (D.files desk.old) (D.read_faults desk.old) (D.read_faults desk.new) (D.read_failed desk.new))) ⊤ }
+    ensures kept { IsKept (write_side D.Desk desk.old desk.new) }
+    ensures answer { let read = read_side D.Desk desk.old desk.new in Concludes result (AuditAnswers tour.now log.now read) (InputsLeave tour.now log.now read) }
 {
     let inputs = fetch_inputs(alloc, tour, log, desk)?;
     require_lawful(alloc, &inputs)?;

@@ -1,12 +1,12 @@
-//! Whether a certificate is valid for a tour behind a log.
-ghost use Rattle.std.specs.Prelude.{◌≡◌, ◌*◌, ◌≤◌, length, IfOk, ⊤};
+//! Whether a certificate is valid for a tour after a log.
+ghost use Rattle.std.specs.Prelude.{◌≡◌, ◌*◌, ◌≤◌, length, IfOk};
 ghost use Rattle.duty_core.specs.Lawful.{IsLawful};
 ghost use Rattle.duty_core.specs.Params.{unit_minutes};
 ghost use Rattle.duty_core.specs.declared.limits.TheConstants.{LONGEST_LOG};
 ghost use Rattle.tour_model.specs.Schedule.{log_start};
 ghost use Rattle.tour_model.specs.Tour.{IsTour};
-ghost use Rattle.driver_cli.specs.Sides.{read_side};
-ghost use Rattle.driver_cli.specs.Answers.{BytesAnswers, CheckAnswers};
+ghost use Rattle.driver_cli.specs.Sides.{read_side, write_side, IsKept};
+ghost use Rattle.driver_cli.specs.Answers.{BytesAnswers, CheckAnswers, CheckLeaves};
 ghost use Rattle.driver_cli.specs.Steps.{Concludes};
 ghost use Rattle.driver_cli.specs.Texts.{rejected_text};
 
@@ -33,7 +33,7 @@ fn rejected(alloc: Global, line: u64, reason: Reason) -> Result<Answer, NoMemory
     })
 }
 
-/// The answer to the bytes of a certificate's file, behind a lawful log.
+/// The answer to the bytes of a certificate's file, after a lawful log.
 fn checked(alloc: Global, inputs: &Inputs, bytes: &[u8]) -> Result<Answer, NoMemory>
     requires tour { IsTour inputs.now.tour }
     requires short { unit_minutes inputs.now.tour.params * length inputs.now.log ≤ LONGEST_LOG }
@@ -53,7 +53,7 @@ fn checked(alloc: Global, inputs: &Inputs, bytes: &[u8]) -> Result<Answer, NoMem
     }
 }
 
-/// Says whether a certificate is valid for a tour behind a log, behind the refusals of the two files
+/// Says whether a certificate is valid for a tour after a log, after the refusals of the two files
 /// and of a log that breaks a rule.
 pub fn check<D: Desk>(
     alloc: Global,
@@ -62,10 +62,8 @@ pub fn check<D: Desk>(
     cert: &Word,
     desk: &mut D,
 ) -> Result<Answer, Halt>
-    ensures files { D.files desk.new ≡ D.files desk.old }
-    ensures write_faults { D.write_faults desk.new ≡ D.write_faults desk.old }
-    ensures write_failed { D.write_failed desk.new ≡ D.write_failed desk.old }
-    ensures answer { Concludes result (CheckAnswers tour.now log.now cert.now (read_side (D.files desk.old) (D.read_faults desk.old) (D.read_faults desk.new) (D.read_failed desk.new))) ⊤ }
+    ensures kept { IsKept (write_side D.Desk desk.old desk.new) }
+    ensures answer { let read = read_side D.Desk desk.old desk.new in Concludes result (CheckAnswers tour.now log.now cert.now read) (CheckLeaves tour.now log.now cert.now read) }
 {
     let inputs = fetch_inputs(alloc, tour, log, desk)?;
     require_lawful(alloc, &inputs)?;

@@ -9,7 +9,7 @@ use std::alloc::Global;
 use text_parts::Text;
 use tour_reader::TourFault;
 
-/// Puts the number of a stop behind the text, where there is one.
+/// Puts the number of a stop after the text, where there is one.
 fn push_stop(text: &mut Text, alloc: Global, stop: Option<u32>) -> Result<(), NoMemory>
     ensures { OnOk result (text.new ≡ text.old ++ stop_text stop) }
 {
@@ -20,7 +20,7 @@ fn push_stop(text: &mut Text, alloc: Global, stop: Option<u32>) -> Result<(), No
     Ok(())
 }
 
-/// Puts a name and a number behind the text.
+/// Puts a name and a number after the text.
 fn push_numbered(text: &mut Text, alloc: Global, name: &str, number: u32) -> Result<(), NoMemory>
     ensures { OnOk result (text.new ≡ text.old ++ (name.now ++ decimal number)) }
 {
@@ -28,7 +28,7 @@ fn push_numbered(text: &mut Text, alloc: Global, name: &str, number: u32) -> Res
     text.push_number(alloc, u64::from(number))
 }
 
-/// Puts what is wrong with a tour behind the text.
+/// Puts what is wrong with a tour after the text.
 pub fn push_tour_fault(text: &mut Text, alloc: Global, fault: &TourFault) -> Result<(), NoMemory>
     ensures { OnOk result (text.new ≡ text.old ++ tour_fault_text fault.now) }
 {
@@ -62,7 +62,7 @@ pub fn push_tour_fault(text: &mut Text, alloc: Global, fault: &TourFault) -> Res
     Ok(())
 }
 
-/// Puts what is wrong with a log behind the text.
+/// Puts what is wrong with a log after the text.
 pub fn push_log_fault(text: &mut Text, alloc: Global, fault: LogFault) -> Result<(), NoMemory>
     ensures { OnOk result (text.new ≡ text.old ++ log_fault_text fault) }
 {

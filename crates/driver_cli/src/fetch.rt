@@ -1,7 +1,7 @@
 //! The files of a command, fetched and read.
 ghost use Rattle.std.specs.Prelude.{◌≡◌, ◌≢◌, IfOk};
 ghost use Rattle.tour_model.specs.Tour.{IsTour};
-ghost use Rattle.driver_cli.specs.Sides.{read_side};
+ghost use Rattle.driver_cli.specs.Sides.{read_side, write_side, IsKept};
 ghost use Rattle.driver_cli.specs.Texts.{read_fault_text, tour_refused_text, log_refused_text};
 ghost use Rattle.driver_cli.specs.Fetched.{IsFetched, IsTourFetched, IsLogFetched, AreInputsFetched};
 
@@ -21,7 +21,7 @@ const TOUR_FETCH: usize = TOUR_LIMIT + 1;
 /// How many bytes of a log's file are fetched: one more than a log may have.
 const LOG_FETCH: usize = LOG_LIMIT + 1;
 
-/// A tour, and the log behind which it is planned: it ends where the tour starts.
+/// A tour, and the log after which it is planned: it ends where the tour starts.
 #[derive(Drop)]
 pub struct Inputs {
     pub tour: Tour,
@@ -45,10 +45,8 @@ pub fn fetch<D: Desk>(
     limit: usize,
     desk: &mut D,
 ) -> Result<Vec<u8>, Halt>
-    ensures files { D.files desk.new ≡ D.files desk.old }
-    ensures write_faults { D.write_faults desk.new ≡ D.write_faults desk.old }
-    ensures write_failed { D.write_failed desk.new ≡ D.write_failed desk.old }
-    ensures fetched { IsFetched name.now limit (read_side (D.files desk.old) (D.read_faults desk.old) (D.read_faults desk.new) (D.read_failed desk.new)) result }
+    ensures kept { IsKept (write_side D.Desk desk.old desk.new) }
+    ensures fetched { IsFetched name.now limit (read_side D.Desk desk.old desk.new) result }
 {
     match desk.fetch(alloc, name, limit) {
         Ok(bytes) => Ok(bytes),
@@ -73,10 +71,8 @@ fn tour_refused(alloc: Global, fault: TourFault) -> Result<Answer, NoMemory>
 /// The tour that the file of that name holds. Answered as `ReadFault` where the file cannot be
 /// read, and as `Refused` where it holds no tour.
 fn fetch_tour<D: Desk>(alloc: Global, name: &Word, desk: &mut D) -> Result<Tour, Halt>
-    ensures files { D.files desk.new ≡ D.files desk.old }
-    ensures write_faults { D.write_faults desk.new ≡ D.write_faults desk.old }
-    ensures write_failed { D.write_failed desk.new ≡ D.write_failed desk.old }
-    ensures fetched { IsTourFetched name.now (read_side (D.files desk.old) (D.read_faults desk.old) (D.read_faults desk.new) (D.read_failed desk.new)) result }
+    ensures kept { IsKept (write_side D.Desk desk.old desk.new) }
+    ensures fetched { IsTourFetched name.now (read_side D.Desk desk.old desk.new) result }
 {
     let bytes = fetch(alloc, name, TOUR_FETCH, desk)?;
     match read_tour(alloc, &bytes) {
@@ -98,7 +94,7 @@ fn log_refused(alloc: Global, fault: LogFault) -> Result<Answer, NoMemory>
     })
 }
 
-/// The log, behind which the tour is planned, that the file of that name holds. Answered as
+/// The log, after which the tour is planned, that the file of that name holds. Answered as
 /// `ReadFault` where the file cannot be read, and as `Refused` where it holds no log that ends where
 /// the tour starts.
 fn fetch_log<D: Desk>(
@@ -108,10 +104,8 @@ fn fetch_log<D: Desk>(
     desk: &mut D,
 ) -> Result<Timeline, Halt>
     requires { IsTour tour.now }
-    ensures files { D.files desk.new ≡ D.files desk.old }
-    ensures write_faults { D.write_faults desk.new ≡ D.write_faults desk.old }
-    ensures write_failed { D.write_failed desk.new ≡ D.write_failed desk.old }
-    ensures fetched { IsLogFetched tour.now name.now (read_side (D.files desk.old) (D.read_faults desk.old) (D.read_faults desk.new) (D.read_failed desk.new)) result }
+    ensures kept { IsKept (write_side D.Desk desk.old desk.new) }
+    ensures fetched { IsLogFetched tour.now name.now (read_side D.Desk desk.old desk.new) result }
 {
     let bytes = fetch(alloc, name, LOG_FETCH, desk)?;
     match read_log(alloc, &bytes, tour.params, tour.start) {
@@ -127,10 +121,8 @@ pub fn fetch_inputs<D: Desk>(
     log: &Word,
     desk: &mut D,
 ) -> Result<Inputs, Halt>
-    ensures files { D.files desk.new ≡ D.files desk.old }
-    ensures write_faults { D.write_faults desk.new ≡ D.write_faults desk.old }
-    ensures write_failed { D.write_failed desk.new ≡ D.write_failed desk.old }
-    ensures fetched { AreInputsFetched tour.now log.now (read_side (D.files desk.old) (D.read_faults desk.old) (D.read_faults desk.new) (D.read_failed desk.new)) result }
+    ensures kept { IsKept (write_side D.Desk desk.old desk.new) }
+    ensures fetched { AreInputsFetched tour.now log.now (read_side D.Desk desk.old desk.new) result }
 {
     let tour = fetch_tour(alloc, tour, desk)?;
     let log = fetch_log(alloc, &tour, log, desk)?;

@@ -1,11 +1,12 @@
 //! The graph of the log of a tour.
-ghost use Rattle.std.specs.Prelude.{◌≡◌, ◌*◌, ◌≤◌, length, IfOk, ⊤};
+ghost use Rattle.std.specs.Prelude.{◌≡◌, ◌*◌, ◌≤◌, length, IfOk};
 ghost use Rattle.duty_core.specs.Params.{unit_minutes};
 ghost use Rattle.duty_core.specs.declared.limits.TheConstants.{LONGEST_LOG};
 ghost use Rattle.log_graph.specs.Graph.{IsGraph};
 ghost use Rattle.tour_model.specs.Schedule.{log_start};
 ghost use Rattle.tour_model.specs.Tour.{IsTour};
-ghost use Rattle.driver_cli.specs.Sides.{read_side};
+ghost use Rattle.driver_cli.specs.Inputs.{InputsLeave};
+ghost use Rattle.driver_cli.specs.Sides.{read_side, write_side, IsKept};
 ghost use Rattle.driver_cli.specs.Answers.{GraphAnswers};
 ghost use Rattle.driver_cli.specs.Steps.{Concludes};
 
@@ -29,12 +30,10 @@ fn drawn(alloc: Global, inputs: &Inputs) -> Result<Answer, NoMemory>
     })
 }
 
-/// Sends the graph of the log, lawful or not, behind the refusals of the two files.
+/// Sends the graph of the log, lawful or not, after the refusals of the two files.
 pub fn graph<D: Desk>(alloc: Global, tour: &Word, log: &Word, desk: &mut D) -> Result<Answer, Halt>
-    ensures files { D.files desk.new ≡ D.files desk.old }
-    ensures write_faults { D.write_faults desk.new ≡ D.write_faults desk.old }
-    ensures write_failed { D.write_failed desk.new ≡ D.write_failed desk.old }
-    ensures answer { Concludes result (GraphAnswers tour.now log.now (read_side (D.files desk.old) (D.read_faults desk.old) (D.read_faults desk.new) (D.read_failed desk.new))) ⊤ }
+    ensures kept { IsKept (write_side D.Desk desk.old desk.new) }
+    ensures answer { let read = read_side D.Desk desk.old desk.new in Concludes result (GraphAnswers tour.now log.now read) (InputsLeave tour.now log.now read) }
 {
     let inputs = fetch_inputs(alloc, tour, log, desk)?;
     Ok(drawn(alloc, &inputs)?)

@@ -9,6 +9,7 @@ mod fetch;
 mod graph;
 mod make;
 mod plan;
+mod program;
 mod put;
 #[cfg(test)]
 mod tests;
@@ -16,4 +17,5 @@ mod texts;
 mod top;
 
 pub use answer::Status;
+pub use program::{exit_code_of_call, words_of};
 pub use top::drive_tool;

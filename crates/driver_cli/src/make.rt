@@ -9,7 +9,7 @@ ghost use Rattle.tour_model.specs.declared.limits.TheConstants.{LONGEST_TOUR};
 ghost use Rattle.tour_model.specs.Schedule.{duration};
 ghost use Rattle.tour_model.specs.Tour.{IsTour};
 ghost use Rattle.driver_cli.specs.Make.{MakeAnswers, MakeLeaves};
-ghost use Rattle.driver_cli.specs.Sides.{write_side};
+ghost use Rattle.driver_cli.specs.Sides.{read_side, write_side, IsUnfailed};
 ghost use Rattle.driver_cli.specs.Steps.{Concludes, AreMadePut, Summarizes};
 
 use crate::answer::{Answer, Halt, Status};
@@ -35,7 +35,8 @@ fn put_both<D: Desk>(
 ) -> Result<(), Halt>
     requires tour { made.now.texts.tour ≡ tour_made number }
     requires log { made.now.texts.log ≡ log_made }
-    ensures { AreMadePut number tour.now log.now (write_side (D.files desk.old) (D.files desk.new) (D.write_faults desk.old) (D.write_faults desk.new) (D.write_failed desk.old) (D.write_failed desk.new)) result }
+    ensures unfailed { IsUnfailed (read_side D.Desk desk.old desk.new) }
+    ensures put { AreMadePut number tour.now log.now (write_side D.Desk desk.old desk.new) result }
 {
     let _ = number;
     put(alloc, tour, made.texts.tour.as_bytes(), desk)?;
@@ -89,7 +90,8 @@ pub fn make<D: Desk>(
     desk: &mut D,
 ) -> Result<Answer, Halt>
     requires { number ≤ MOST_MADE }
-    ensures answer { let write = write_side (D.files desk.old) (D.files desk.new) (D.write_faults desk.old) (D.write_faults desk.new) (D.write_failed desk.old) (D.write_failed desk.new) in
+    ensures unfailed { IsUnfailed (read_side D.Desk desk.old desk.new) }
+    ensures answer { let write = write_side D.Desk desk.old desk.new in
         Concludes result (MakeAnswers number tour.now log.now write) (MakeLeaves number tour.now log.now write) }
 {
     let made = made_tour(alloc, number)?;

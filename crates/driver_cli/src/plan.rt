@@ -1,4 +1,4 @@
-//! A tour planned behind a log, and the certificate of it put.
+//! A tour planned after a log, and the certificate of it put.
 ghost use Rattle.std.specs.Prelude.{◌≡◌, ◌*◌, ◌≤◌, length, IfOk};
 ghost use Rattle.duty_core.specs.Params.{unit_minutes};
 ghost use Rattle.duty_core.specs.declared.limits.TheConstants.{LONGEST_LOG};
@@ -26,7 +26,7 @@ struct Proposal {
     cert: Vec<u8>,
 }
 
-/// The answer to a tour behind its log, with the bytes of the certificate that proves it. Answered at
+/// The answer to a tour after its log, with the bytes of the certificate that proves it. Answered at
 /// once, and as `LogUnlawful`, where the log breaks a rule, and as `Spent` where the search may keep no
 /// more labels.
 fn propose(alloc: Global, inputs: &Inputs, budget: u32) -> Result<Proposal, Halt>
@@ -55,8 +55,8 @@ fn propose(alloc: Global, inputs: &Inputs, budget: u32) -> Result<Proposal, Halt
     }
 }
 
-/// Plans a tour behind a log, and puts the certificate of what is answered: a shortest schedule, or
-/// that there is none. It does so behind the refusals of the two files and of a log that breaks a rule.
+/// Plans a tour after a log, and puts the certificate of what is answered: a shortest schedule, or
+/// that there is none. It does so after the refusals of the two files and of a log that breaks a rule.
 pub fn plan<D: Desk>(
     alloc: Global,
     tour: &Word,
@@ -66,8 +66,8 @@ pub fn plan<D: Desk>(
     desk: &mut D,
 ) -> Result<Answer, Halt>
     requires { IsBudget budget }
-    ensures answer { let read = read_side (D.files desk.old) (D.read_faults desk.old) (D.read_faults desk.new) (D.read_failed desk.new) in
-        let write = write_side (D.files desk.old) (D.files desk.new) (D.write_faults desk.old) (D.write_faults desk.new) (D.write_failed desk.old) (D.write_failed desk.new) in
+    ensures answer { let read = read_side D.Desk desk.old desk.new in
+        let write = write_side D.Desk desk.old desk.new in
         Concludes result (PlanAnswers tour.now log.now cert.now budget read write) (PlanLeaves tour.now log.now cert.now read write) }
 {
     let inputs = fetch_inputs(alloc, tour, log, desk)?;

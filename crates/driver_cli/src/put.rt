@@ -1,6 +1,6 @@
 //! A file that is put.
 ghost use Rattle.std.specs.Prelude.{◌≡◌, IfOk};
-ghost use Rattle.driver_cli.specs.Sides.{write_side};
+ghost use Rattle.driver_cli.specs.Sides.{read_side, write_side, IsUnfailed};
 ghost use Rattle.driver_cli.specs.Steps.{IsFilePut};
 ghost use Rattle.driver_cli.specs.Texts.{write_fault_text};
 
@@ -22,9 +22,8 @@ fn write_fault(alloc: Global, name: &Word) -> Result<Answer, NoMemory>
 
 /// Makes the file of that name hold these bytes. Answered as `WriteFault` where it cannot be put.
 pub fn put<D: Desk>(alloc: Global, name: &Word, bytes: &[u8], desk: &mut D) -> Result<(), Halt>
-    ensures read_faults { D.read_faults desk.new ≡ D.read_faults desk.old }
-    ensures read_failed { D.read_failed desk.new ≡ D.read_failed desk.old }
-    ensures put { IsFilePut name.now bytes.now (write_side (D.files desk.old) (D.files desk.new) (D.write_faults desk.old) (D.write_faults desk.new) (D.write_failed desk.old) (D.write_failed desk.new)) result }
+    ensures unfailed { IsUnfailed (read_side D.Desk desk.old desk.new) }
+    ensures put { IsFilePut name.now bytes.now (write_side D.Desk desk.old desk.new) result }
 {
     match desk.put(name, bytes) {
         Ok(()) => Ok(()),

@@ -68,7 +68,7 @@ pub fn log_refused_text(alloc: Global, fault: LogFault) -> Result<Text, NoMemory
     Ok(text)
 }
 
-/// Puts a space and its name behind the text for each rule.
+/// Puts a space and its name after the text for each rule.
 fn push_rules(text: &mut Text, rules: &[Rule]) -> Result<(), NoMemory>
     ensures { OnOk result (text.new ≡ text.old ++ rule_words rules.now) }
 {
@@ -78,7 +78,7 @@ fn push_rules(text: &mut Text, rules: &[Rule]) -> Result<(), NoMemory>
     Ok(())
 }
 
-/// Puts a space and the rule's name behind the text.
+/// Puts a space and the rule's name after the text.
 fn push_rule(text: &mut Text, rule: Rule) -> Result<(), NoMemory>
     ensures { OnOk result (text.new ≡ text.old ++ (codes " " ++ rule_name rule)) }
 {

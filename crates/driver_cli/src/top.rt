@@ -19,8 +19,8 @@ use std::alloc::Global;
 /// The answer to a command.
 fn run<D: Desk>(alloc: Global, command: &Command, desk: &mut D) -> Result<Answer, Halt>
     requires { HasBudget command.now }
-    ensures answer { let read = read_side (D.files desk.old) (D.read_faults desk.old) (D.read_faults desk.new) (D.read_failed desk.new) in
-        let write = write_side (D.files desk.old) (D.files desk.new) (D.write_faults desk.old) (D.write_faults desk.new) (D.write_failed desk.old) (D.write_failed desk.new) in
+    ensures answer { let read = read_side D.Desk desk.old desk.new in
+        let write = write_side D.Desk desk.old desk.new in
         Concludes result (CommandAnswers command.now read write) (CommandLeaves command.now read write) }
 {
     match command {
@@ -39,8 +39,8 @@ fn run<D: Desk>(alloc: Global, command: &Command, desk: &mut D) -> Result<Answer
 
 /// The answer to the words.
 fn answer<D: Desk>(alloc: Global, words: &[Word], desk: &mut D) -> Result<Answer, Halt>
-    ensures answer { let read = read_side (D.files desk.old) (D.read_faults desk.old) (D.read_faults desk.new) (D.read_failed desk.new) in
-        let write = write_side (D.files desk.old) (D.files desk.new) (D.write_faults desk.old) (D.write_faults desk.new) (D.write_failed desk.old) (D.write_failed desk.new) in
+    ensures answer { let read = read_side D.Desk desk.old desk.new in
+        let write = write_side D.Desk desk.old desk.new in
         Concludes result (WordsAnswers words.now read write) (WordsLeave words.now read write) }
 {
     match command_of(alloc, words)? {
@@ -63,11 +63,11 @@ fn settled(ended: Result<Answer, Halt>) -> Result<Answer, NoMemory>
 /// Does all that the planner does with these words over the files of the desk, and sends one text.
 ///
 /// - `plan TOUR LOG CERT` reads a tour and a log from the files of the first two names, plans the tour
-///   behind the log, puts a certificate of what it found into the file of the third name, and then sends
-///   the report of a shortest schedule, or that there is none. Behind it may stand `--budget` and the
+///   after the log, puts a certificate of what it found into the file of the third name, and then sends
+///   the report of a shortest schedule, or that there is none. After it may stand `--budget` and the
 ///   number of labels that the search may keep, from 1 to 500,000 (else 200,000).
 /// - `check TOUR LOG CERT` reads three files, and says whether the third holds a valid certificate of
-///   the tour behind the log.
+///   the tour after the log.
 /// - `audit TOUR LOG` says whether the log is lawful.
 /// - `graph TOUR LOG` sends the graph of the log, and does not judge it.
 /// - `make N TOUR LOG` puts the tour of the number N, from 0 to 999,999, and its log into the files of
@@ -101,9 +101,9 @@ pub fn drive_tool<D: Desk, S: Sink>(
 ) -> Status
     // For each sentence: what each status means, byte for byte, and which status may come where.
     ensures ends { Ends words.now
-        (read_side (D.files desk.old) (D.read_faults desk.old) (D.read_faults desk.new) (D.read_failed desk.new))
-        (write_side (D.files desk.old) (D.files desk.new) (D.write_faults desk.old) (D.write_faults desk.new) (D.write_failed desk.old) (D.write_failed desk.new))
-        (sink_side (S.written out.old) (S.written out.new) (S.faults out.old) (S.faults out.new)) result }
+        (read_side D.Desk desk.old desk.new)
+        (write_side D.Desk desk.old desk.new)
+        (sink_side S.Sink out.old out.new) result }
 {
     match settled(answer(alloc, words, desk)) {
         Ok(answer) => send_answer(&answer, out),

@@ -1,7 +1,7 @@
 use Rattle.std.proofs.Common.{map, refl, inl, codes}
 use Rattle.command_words.specs.Calls.{place, check_call}
 use Rattle.command_words.proofs.Known.{value_given}
-use Rattle.command_words.proofs.Sentences.{words_taken, word_found}
+use Rattle.command_words.proofs.CommandLines.{words_taken, word_found}
 use Rattle.command_words.proofs.command.check_of.Goals as goal
 
 pub word_of-requires : goal.word_of-requires

@@ -3,7 +3,7 @@ use Rattle.clap.specs.declared.builder.value_parser.ValueParser.TheVariants.{Uns
 use Rattle.command_words.specs.declared.command.TheConstants.{MOST_MADE}
 use Rattle.command_words.specs.Calls.{place, make_call, number_place}
 use Rattle.command_words.proofs.Known.{value_given, value_read}
-use Rattle.command_words.proofs.Sentences.{words_taken, word_found, number_found, number_fits}
+use Rattle.command_words.proofs.CommandLines.{words_taken, word_found, number_found, number_fits}
 use Rattle.command_words.proofs.command.make_of.Goals as goal
 
 pub word_of-requires : goal.word_of-requires

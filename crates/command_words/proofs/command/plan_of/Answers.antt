@@ -3,7 +3,7 @@ use Rattle.clap.specs.declared.builder.value_parser.ValueParser.TheVariants.{Uns
 use Rattle.label_search.specs.declared.by_layers.TheConstants.{MOST_BUDGET}
 use Rattle.command_words.specs.Calls.{place, plan_call, budget_option}
 use Rattle.command_words.proofs.Known.{value_given, value_read}
-use Rattle.command_words.proofs.Sentences.{words_taken, word_found, number_found, number_fits}
+use Rattle.command_words.proofs.CommandLines.{words_taken, word_found, number_found, number_fits}
 use Rattle.command_words.proofs.command.plan_of.Goals as goal
 
 pub word_of-requires : goal.word_of-requires

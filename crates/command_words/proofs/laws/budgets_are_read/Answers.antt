@@ -1,8 +1,8 @@
-use Rattle.command_words.proofs.Forms.{budget_behind, budget_before, budget_joined}
+use Rattle.command_words.proofs.Forms.{budget_after, budget_before, budget_joined}
 use Rattle.command_words.proofs.laws.budgets_are_read.Goals as goal
 
-pub returns-clause-behind : goal.returns-clause-behind
-returns-clause-behind c = budget_behind
+pub returns-clause-after : goal.returns-clause-after
+returns-clause-after c = budget_after
 
 pub returns-clause-before : goal.returns-clause-before
 returns-clause-before c = budget_before

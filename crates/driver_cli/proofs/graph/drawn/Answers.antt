@@ -1,6 +1,6 @@
 use Rattle.std.proofs.Common.{length, subst, sym}
 use Rattle.duty_core.specs.Params.{BeginsUnit}
-use Rattle.tour_model.specs.LengthLaws.{begins_sooner}
+use Rattle.tour_model.specs.Laws.LengthLaws.{begins_sooner}
 use Rattle.driver_cli.proofs.graph.drawn.Goals as goal
 
 pub graph-requires-clause-begins : goal.graph-requires-clause-begins

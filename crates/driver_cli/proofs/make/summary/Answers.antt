@@ -1,6 +1,6 @@
 use Rattle.std.proofs.Common.{◌*◌, ◌≤◌, length, sym, subst}
 use Rattle.tour_model.specs.declared.limits.TheConstants.{LONGEST_TOUR}
-use Rattle.tour_model.specs.LengthLaws.{serves_short}
+use Rattle.tour_model.specs.Laws.LengthLaws.{serves_short}
 use Rattle.tour_plan.specs.Planned.{IsPlanned}
 use Rattle.driver_cli.proofs.Stages.{not_lawful}
 use Rattle.driver_cli.proofs.make.summary.Goals as goal

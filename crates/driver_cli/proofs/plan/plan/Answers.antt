@@ -1,8 +1,7 @@
-use Rattle.std.specs.Prelude.{Err, refl}
-use Rattle.std.proofs.Common.{◌∙◌}
+use Rattle.std.specs.Prelude.{Err}
 use Rattle.driver_cli.specs.Sides.{HasPut}
 use Rattle.driver_cli.specs.Steps.{IsFilePut}
-use Rattle.driver_cli.proofs.Stepped.{rewritten, untouched, handed_on, still_given, plan_halts, plan_declines, put_halts, proved}
+use Rattle.driver_cli.proofs.Stepped.{rewritten, still_lawful, handed_on, plan_halts, plan_declines, put_halts, proved}
 use Rattle.driver_cli.proofs.plan.plan.Goals as goal
 
 pub returns-in_err-inputs : goal.returns-in_err-inputs
@@ -10,8 +9,7 @@ returns-in_err-inputs g c =
     let e = c.in_err-inputs.field-0.0 in
     let ens = c.in_err-inputs.ensures in
     record {
-      answer = handed_on c.from_residual.result e _ _ c.from_residual.ensures.1
-          (plan_halts c.args.tour.now c.args.log.now c.args.cert.now c.args.budget _ _ e (untouched _ _ _ _ _ _ ens.files ens.write_faults ens.write_failed) ens.fetched);
+      answer = handed_on c.from_residual.result e _ _ c.from_residual.ensures.1 (plan_halts c.args.tour.now c.args.log.now c.args.cert.now c.args.budget _ _ e ens.kept ens.fetched);
     }
 
 pub returns-in_err-proposal : goal.returns-in_err-proposal
@@ -20,38 +18,29 @@ returns-in_err-proposal g c =
     let ens = c.in_ok-inputs.ensures in
     record {
       answer = handed_on c.from_residual-in_err-proposal.result e _ _ c.from_residual-in_err-proposal.ensures.1
-          (plan_declines c.args.tour.now c.args.log.now c.args.cert.now c.args.budget _ _ c.in_ok-inputs.inputs.tour c.in_ok-inputs.inputs.log e
-          (untouched _ _ _ _ _ _ ens.files ens.write_faults ens.write_failed) ens.fetched.2 c.in_err-proposal.ensures);
+          (plan_declines c.args.tour.now c.args.log.now c.args.cert.now c.args.budget _ _ c.in_ok-inputs.inputs.tour c.in_ok-inputs.inputs.log e ens.kept ens.fetched.2 c.in_err-proposal.ensures);
     }
 
 pub returns-in_err-put : goal.returns-in_err-put
 returns-in_err-put g c =
     let e = c.in_err-put.field-0.0 in
     let ens = c.in_ok-inputs.ensures in
-    let read = ens.fetched.2 in
     let put = c.in_err-put.ensures in
     record {
       answer = handed_on c.from_residual-in_err-put.result e _ _ c.from_residual-in_err-put.ensures.1
           (put_halts c.args.tour.now c.args.log.now c.args.cert.now c.args.budget _ _ c.in_ok-inputs.inputs.tour c.in_ok-inputs.inputs.log c.deref.result.now e
-          (record {
-            read = record { given = still_given c.args.tour.now c.args.log.now _ _ c.in_ok-inputs.inputs.tour c.in_ok-inputs.inputs.log refl read.given; unfailed = put.read_faults ∙ read.unfailed };
-            lawful = c.in_ok-proposal.ensures.0;
-          })
-          (rewritten (λ w. IsFilePut c.args.cert.now c.deref.result.now w (Err e)) _ _ _ _ _ _ _ _ _ ens.files ens.write_faults ens.write_failed put.put));
+          (still_lawful g.D.Desk _ _ _ c.args.tour.now c.args.log.now c.in_ok-inputs.inputs.tour c.in_ok-inputs.inputs.log ens.fetched.2 put.unfailed c.in_ok-proposal.ensures.0)
+          (rewritten g.D.Desk _ _ _ (λ w. IsFilePut c.args.cert.now c.deref.result.now w (Err e)) ens.kept put.put));
     }
 
 pub returns : goal.returns
 returns g c =
     let ens = c.in_ok-inputs.ensures in
-    let read = ens.fetched.2 in
     let put = c.in_ok-put.ensures in
     let bytes = c.in_ok-proposal.proposal.cert.items in
-    let held : HasPut _ c.args.cert.now bytes = rw c.deref.ensures.value at (rewritten (λ w. HasPut w c.args.cert.now c.deref.result.now) _ _ _ _ _ _ _ _ _ ens.files ens.write_faults ens.write_failed put.put) in
+    let held : HasPut _ c.args.cert.now bytes = rw c.deref.ensures.value at (rewritten g.D.Desk _ _ _ (λ w. HasPut w c.args.cert.now c.deref.result.now) ens.kept put.put) in
     record {
       answer = proved c.args.tour.now c.args.log.now c.args.cert.now c.args.budget _ _ c.in_ok-inputs.inputs.tour c.in_ok-inputs.inputs.log bytes _ _
-          (record {
-            read = record { given = still_given c.args.tour.now c.args.log.now _ _ c.in_ok-inputs.inputs.tour c.in_ok-inputs.inputs.log refl read.given; unfailed = put.read_faults ∙ read.unfailed };
-            lawful = c.in_ok-proposal.ensures.0;
-          })
+          (still_lawful g.D.Desk _ _ _ c.args.tour.now c.args.log.now c.in_ok-inputs.inputs.tour c.in_ok-inputs.inputs.log ens.fetched.2 put.unfailed c.in_ok-proposal.ensures.0)
           c.in_ok-proposal.ensures.1 held;
     }

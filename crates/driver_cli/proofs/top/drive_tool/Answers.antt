@@ -13,5 +13,5 @@ returns-in-Ok g c = record {
 
 pub returns-in-Err : goal.returns-in-Err
 returns-in-Err g c = record {
-  ends = memory_ends _ _ _ (record { nothing = Keeps-refl _; faults = refl }) _ (settled_memory _ _ c.answer.result c.in-Err.field-0 (subst (Settles c.answer.result) c.in-Err.is c.settled.ensures) c.answer.ensures.answer);
+  ends = memory_ends _ _ _ (record { never = refl; nothing = Keeps-refl _; faults = refl }) _ (settled_memory _ _ c.answer.result c.in-Err.field-0 (subst (Settles c.answer.result) c.in-Err.is c.settled.ensures) c.answer.ensures.answer);
 }

@@ -1,4 +1,4 @@
--- From what a parse gives to a sentence.
+-- From what a parse gives to a command.
 use Rattle.std.proofs.Common.{◌≡◌, ◌∙◌, ◌≤◌, ◌^◌, ◌-◌, ℕ, List, [], Some, codes, false, refl, ap, sym, subst, arith}
 use Rattle.std.specs.Prelude.{Option, None, Result, Ok, Err, IfOk, IfNone, IfSome, MatchOption, slice_get, slice_index}
 use Rattle.std.specs.Str.Parse.{digits_value, without_leading_plus}
@@ -17,7 +17,7 @@ use Rattle.command_words.specs.declared.command.TheConstants.{MOST_MADE}
 use Rattle.command_words.specs.declared.command.Command as planner
 use Rattle.command_words.specs.declared.command.Command.TheVariants.{Plan, Check, Audit, Graph, Make}
 use Rattle.command_words.specs.Calls.{plan_call, check_call, audit_call, graph_call, make_call}
-use Rattle.command_words.specs.Command.{Takes, HasWord, HasNumber, IsSentence, IsNoSentence, AreRefused, HasBudget}
+use Rattle.command_words.specs.Command.{Takes, HasWord, HasNumber, IsCommandLine, IsNoCommandLine, AreRefused, HasBudget}
 use Rattle.command_words.proofs.Known.{FirstValue}
 
 pub words_taken : (c : Command) (a : App) (words : List Bytes) → app_of c ≡ a → slice_get words 0 ≡ Some a.top.name
@@ -50,8 +50,8 @@ number_fits m id least most fits value =
     let high = passed.3 in
     (value.text, value.read, (passed.0, passed.1, omega arith, omega arith))
 
--- where no command takes the words, they are no sentence
-pub refused_is_none : (words : List Bytes) → AreRefused words → IsNoSentence words
+-- where no command takes the words, they are no command
+pub refused_is_none : (words : List Bytes) → AreRefused words → IsNoCommandLine words
 refused_is_none words none (Plan tour log cert budget) s = none 0 plan_call (omega arith) s.0
 refused_is_none words none (Check tour log cert) s = none 1 plan_call (omega arith) s.0
 refused_is_none words none (Audit tour log) s = none 2 plan_call (omega arith) s.0
@@ -60,14 +60,14 @@ refused_is_none words none (Make number tour log) s = none 4 plan_call (omega ar
 
 -- so of what is read
 pub read_of : {E : Type 0} (words : List Bytes) (r : Result (Option planner.Command) E)
-    → IfOk r (λ read. MatchOption read (AreRefused words) (IsSentence words))
-    → IfOk r (λ read. MatchOption read (IsNoSentence words) (IsSentence words))
+    → IfOk r (λ read. MatchOption read (AreRefused words) (IsCommandLine words))
+    → IfOk r (λ read. MatchOption read (IsNoCommandLine words) (IsCommandLine words))
 read_of words (Ok (Some command)) h = h
 read_of words (Ok None) h = refused_is_none words h
 read_of words (Err e) h = h
 
 pub refused_of : {E : Type 0} (words : List Bytes) (r : Result (Option planner.Command) E)
-    → IfOk r (λ read. MatchOption read (AreRefused words) (IsSentence words))
+    → IfOk r (λ read. MatchOption read (AreRefused words) (IsCommandLine words))
     → IfOk r (λ read. IfNone read (AreRefused words))
 refused_of words (Ok (Some command)) h = tt
 refused_of words (Ok None) h = h
@@ -80,18 +80,18 @@ number_in call words id least most n h =
     let is = h.2.1 in
     (omega arith, omega arith)
 
--- the numbers of a sentence are such as may be given
-pub sentence_budget : (words : List Bytes) (c : planner.Command) → IsSentence words c → HasBudget c
-sentence_budget words (Plan tour log cert budget) s = number_in plan_call words (codes "budget") 1 MOST_BUDGET budget s.4
-sentence_budget words (Check tour log cert) s = tt
-sentence_budget words (Audit tour log) s = tt
-sentence_budget words (Graph tour log) s = tt
-sentence_budget words (Make number tour log) s = (number_in make_call words (codes "number") 0 MOST_MADE number s.1).1
+-- the numbers of a command line are such as may be given
+pub command_line_budget : (words : List Bytes) (c : planner.Command) → IsCommandLine words c → HasBudget c
+command_line_budget words (Plan tour log cert budget) s = number_in plan_call words (codes "budget") 1 MOST_BUDGET budget s.4
+command_line_budget words (Check tour log cert) s = tt
+command_line_budget words (Audit tour log) s = tt
+command_line_budget words (Graph tour log) s = tt
+command_line_budget words (Make number tour log) s = (number_in make_call words (codes "number") 0 MOST_MADE number s.1).1
 
 pub budget_of : {E : Type 0} (words : List Bytes) (r : Result (Option planner.Command) E)
-    → IfOk r (λ read. MatchOption read (AreRefused words) (IsSentence words))
+    → IfOk r (λ read. MatchOption read (AreRefused words) (IsCommandLine words))
     → IfOk r (λ read. IfSome read HasBudget)
-budget_of words (Ok (Some command)) h = sentence_budget words command h
+budget_of words (Ok (Some command)) h = command_line_budget words command h
 budget_of words (Ok None) h = tt
 budget_of words (Err e) h = h
 
@@ -104,7 +104,7 @@ name_of (Audit tour log) = codes "audit"
 name_of (Graph tour log) = codes "graph"
 name_of (Make number tour log) = codes "make"
 
-first_word : (words : List Bytes) (c : planner.Command) → IsSentence words c → slice_get words 0 ≡ Some (name_of c)
+first_word : (words : List Bytes) (c : planner.Command) → IsCommandLine words c → slice_get words 0 ≡ Some (name_of c)
 first_word words (Plan tour log cert budget) s = s.0.0
 first_word words (Check tour log cert) s = s.0.0
 first_word words (Audit tour log) s = s.0.0
@@ -115,7 +115,7 @@ abbrev first_letter : Option Text → ℕ
 first_letter None = 0
 first_letter (Some name) = slice_index name 0
 
-letters : (words : List Bytes) (c d : planner.Command) → IsSentence words c → IsSentence words d
+letters : (words : List Bytes) (c d : planner.Command) → IsCommandLine words c → IsCommandLine words d
     → first_letter (Some (name_of c)) ≡ first_letter (Some (name_of d))
 letters words c d p q = ap first_letter (sym (first_word words c p) ∙ first_word words d q)
 
@@ -129,7 +129,7 @@ same_number call words id least most a b p q =
     p.2.1 ∙ ap (λ t. digits_value 10 (without_leading_plus t)) text ∙ sym q.2.1
 
 -- the words ask for one command at most
-pub one_command : (words : List Bytes) (c d : planner.Command) → IsSentence words c → IsSentence words d → c ≡ d
+pub one_command : (words : List Bytes) (c d : planner.Command) → IsCommandLine words c → IsCommandLine words d → c ≡ d
 one_command words (Plan tour log cert budget) (Plan tour' log' cert' budget') p q =
     let t = same_word plan_call words (codes "tour") tour tour' p.1 q.1 in
     let l = same_word plan_call words (codes "log") log log' p.2 q.2 in

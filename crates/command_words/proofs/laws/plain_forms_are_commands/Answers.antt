@@ -1,5 +1,5 @@
 use Rattle.command_words.proofs.Forms.{plan_form, check_form, audit_form, graph_form, make_form}
-use Rattle.command_words.proofs.laws.plain_forms_are_sentences.Goals as goal
+use Rattle.command_words.proofs.laws.plain_forms_are_commands.Goals as goal
 
 pub returns-clause-plan : goal.returns-clause-plan
 returns-clause-plan c = plan_form
