@@ -38,7 +38,7 @@ class History:
         found = runs(units)
         open_run = found[-1] if found[-1][0] else (True, end, end)
         self.run = open_run[2] - open_run[1]
-        self.off = "O" in units[open_run[1]:]
+        self.off = "O" in units[max(PADDING, open_run[1]):]
         ended = [(a, b) for rest, a, b in found if rest and b < end]
         declared = [(a, b, b - a >= 600) for a, b in ended if b - a >= 600 or a + origin in marks]
         self.waits = bool(declared) and not declared[-1][2]
