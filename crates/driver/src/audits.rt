@@ -80,12 +80,17 @@ fn audits_days_of_work_and_rest(rt: HostRuntime) -> Result<(), Fail> {
         let tour = tour_of(alloc, head, stop.as_str())?;
         let log = format!(in alloc; "from,to,status\n{rows}")?;
         let audit = call(alloc, Given::new(&AUDIT, tour.as_str(), log.as_str()))?;
-        let status = if text == "lawful\n" {
-            Status::Done
-        } else {
-            Status::LogUnlawful
-        };
-        assert_eq!(rt; audit.status, status, "where {text} is sent");
+        let lawful = audit.sent.as_slice() == "lawful\n".as_bytes();
+        assert_eq!(rt;
+            audit.status == Status::Done,
+            lawful,
+            "where {text} is sent"
+        );
+        assert_eq!(rt;
+            audit.status == Status::LogUnlawful,
+            !lawful,
+            "where {text} is sent"
+        );
         assert_eq!(rt; audit.sent.as_slice(), text.as_bytes());
     }
     Ok(())
