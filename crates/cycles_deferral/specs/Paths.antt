@@ -14,7 +14,7 @@ use Rattle.cycles_deferral.specs.CycleMachine.{cycle_after}
 
 -- the minutes of rest before and after a history, and a history as the rules see it: what duty_core says of every Canadian book
 abbrev pub ca_pads : ℕ
-ca_pads = pad_days * 1440
+ca_pads = pad_days * DAY_MINUTES
 
 abbrev pub ca_padding : List Activity
 ca_padding = replicate ca_pads Off

@@ -23,17 +23,17 @@ use Rattle.duty_core.specs.Laws.UniqueLaws.{first_of_days_unique}
 
 -- # Minutes
 
-lies_from : (m s n k q : ℕ) (date minute : ℤ) → s ≤ 1440 → date +ℤ pos (k + 1) ≡ pos n → minute +ℤ pos (k * 1440) ≡ pos m → q ≡ (m + (1440 - s)) / 1440 → q ≡ n → LiesInDay s date minute
+lies_from : (m s n k q : ℕ) (date minute : ℤ) → s ≤ DAY_MINUTES → date +ℤ pos (k + 1) ≡ pos n → minute +ℤ pos (k * DAY_MINUTES) ≡ pos m → q ≡ (m + (DAY_MINUTES - s)) / DAY_MINUTES → q ≡ n → LiesInDay s date minute
 lies_from m s n k q date minute l d e h g = record {
   begun = omega (arith, ints);
   before_next = omega (arith, ints);
 }
 
-lies_means : (m s n k q : ℕ) (date minute : ℤ) → s ≤ 1440 → date +ℤ pos (k + 1) ≡ pos n → minute +ℤ pos (k * 1440) ≡ pos m → q ≡ (m + (1440 - s)) / 1440 → LiesInDay s date minute → q ≡ n
+lies_means : (m s n k q : ℕ) (date minute : ℤ) → s ≤ DAY_MINUTES → date +ℤ pos (k + 1) ≡ pos n → minute +ℤ pos (k * DAY_MINUTES) ≡ pos m → q ≡ (m + (DAY_MINUTES - s)) / DAY_MINUTES → LiesInDay s date minute → q ≡ n
 lies_means m s n k q date minute l d e h g = let a = g.begun in let b = g.before_next in omega (arith, ints)
 
 -- a place's minute, counted from the beginning of the padding
-from_padding : (params : Params) (first i : ℕ) → minute_at params first i +ℤ pos (pad_days * 1440) ≡ pos (first + unit_minutes params * i)
+from_padding : (params : Params) (first i : ℕ) → minute_at params first i +ℤ pos (pad_days * DAY_MINUTES) ≡ pos (first + unit_minutes params * i)
 from_padding params first i = let e = padding_days params in omega (arith, ints)
 
 pub number_is_of_minute : (params : Params) (first i n : ℕ) (date : ℤ) → day_start params ≤ DAY_MINUTES → IsNumberOfDay date n →
@@ -54,10 +54,10 @@ canada_minute berth way cycle start first k = (omega (arith, ints), refl)
 pub australia_minute : (first k : ℕ) → (minute_at Hvnl first (pad_units Hvnl + k) ≡ pos (first + 15 * k)) × (day_start Hvnl ≡ 0)
 australia_minute first k = (omega (arith, ints), refl)
 
-rises_at : (m u s k : ℕ) (date minute : ℤ) → 0 < u → u ≤ 1440 → s ≤ 1440 → minute +ℤ pos (k * 1440) ≡ pos (m + u) → BeginsDay s date minute → (m + u + (1440 - s)) / 1440 ≡ (m + (1440 - s)) / 1440 + 1
+rises_at : (m u s k : ℕ) (date minute : ℤ) → 0 < u → u ≤ DAY_MINUTES → s ≤ DAY_MINUTES → minute +ℤ pos (k * DAY_MINUTES) ≡ pos (m + u) → BeginsDay s date minute → (m + u + (DAY_MINUTES - s)) / DAY_MINUTES ≡ (m + (DAY_MINUTES - s)) / DAY_MINUTES + 1
 rises_at m u s k date minute some small l e b = omega (arith, ints)
 
-unit_within : (params : Params) → (0 < unit_minutes params) × (unit_minutes params ≤ 1440)
+unit_within : (params : Params) → (0 < unit_minutes params) × (unit_minutes params ≤ DAY_MINUTES)
 unit_within (UsProperty berth days start) = (omega arith, omega arith)
 unit_within (Canada berth way cycle start) = (omega arith, omega arith)
 unit_within Hvnl = (omega arith, omega arith)
@@ -68,16 +68,16 @@ number_rises params first i date l b =
     let e = from_padding params first (i + 1) in
     let m : first + unit_minutes params * (i + 1) ≡ first + unit_minutes params * i + unit_minutes params = omega arith in
     let r = rises_at (first + unit_minutes params * i) (unit_minutes params) (day_start params) pad_days date (minute_at params first (i + 1)) u.0 u.1 l (e ∙ ap pos m) b in
-    ap (λ n. (n + (1440 - day_start params)) / 1440) m ∙ r
+    ap (λ n. (n + (DAY_MINUTES - day_start params)) / DAY_MINUTES) m ∙ r
 
 -- where the number rises, a day begins
-begins_where : (params : Params) (first i : ℕ) → day_start params ≤ 1440 → BeginsUnit params first → day_number params first i < day_number params first (i + 1) →
-    first + unit_minutes params * (i + 1) + 1440 ≡ 1440 * day_number params first (i + 1) + day_start params
+begins_where : (params : Params) (first i : ℕ) → day_start params ≤ DAY_MINUTES → BeginsUnit params first → day_number params first i < day_number params first (i + 1) →
+    first + unit_minutes params * (i + 1) + DAY_MINUTES ≡ DAY_MINUTES * day_number params first (i + 1) + day_start params
 begins_where (UsProperty berth days start) first i l b r = omega arith
 begins_where (Canada berth way cycle start) first i l b r = omega arith
 begins_where Hvnl first i l b r = let w = b.whole in omega arith
 
-begins_at : (m s n k : ℕ) (minute : ℤ) → minute +ℤ pos (k * 1440) ≡ pos m → m + 1440 ≡ 1440 * n + s → BeginsDay s (pos n -ℤ pos (k + 1)) minute
+begins_at : (m s n k : ℕ) (minute : ℤ) → minute +ℤ pos (k * DAY_MINUTES) ≡ pos m → m + DAY_MINUTES ≡ DAY_MINUTES * n + s → BeginsDay s (pos n -ℤ pos (k + 1)) minute
 begins_at m s n k minute e h = omega (arith, ints)
 
 pub number_stays : (params : Params) (first i : ℕ) → day_start params ≤ DAY_MINUTES → BeginsUnit params first → ((date : ℤ) → BeginsDay (day_start params) date (minute_at params first (i + 1)) → ⊥) →

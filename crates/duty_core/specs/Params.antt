@@ -14,8 +14,8 @@ unit_minutes Hvnl = 15
 
 -- the number of units of a day
 abbrev pub day_units : Params → ℕ
-day_units (UsProperty berth days day_start) = 1440
-day_units (Canada berth way cycle day_start) = 1440
+day_units (UsProperty berth days day_start) = DAY_MINUTES
+day_units (Canada berth way cycle day_start) = DAY_MINUTES
 day_units Hvnl = 96
 
 -- whether the truck has a sleeper berth

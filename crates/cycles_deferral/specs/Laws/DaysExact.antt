@@ -60,7 +60,7 @@ stands_fresh way day days =
     let two : 2 ≤ day (length ca_padding - 1) = subst (λ m. 2 ≤ day (m - 1)) (sym n) days.later in
     let at : ℕ = length ca_padding - 1441 in
     let f : day (at + DAY_MINUTES) ≡ day at + 1 = days.whole at in
-    let g : day (at + DAY_MINUTES) ≡ day (length ca_padding - 1) = ap day (let z : at + 1440 ≡ length ca_padding - 1 = omega arith in z) in
+    let g : day (at + DAY_MINUTES) ≡ day (length ca_padding - 1) = ap day (let z : at + DAY_MINUTES ≡ length ca_padding - 1 = omega arith in z) in
     record {
       some = omega arith;
       knows = record {

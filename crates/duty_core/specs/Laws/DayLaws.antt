@@ -12,12 +12,12 @@ use Rattle.duty_core.specs.Day.{day_start, minute_at, day_number, IsNumberOfDay}
 use Rattle.duty_core.specs.Laws.Day.{day_at}
 
 -- a quotient that is rounded down, by a number that is moved by whole days
-quotient_moved : (z : ℤ) (k m : ℕ) → z +ℤ pos (k * 1440) ≡ pos m → int_div_euclid z (pos 1440) +ℤ pos k ≡ pos (m / 1440)
+quotient_moved : (z : ℤ) (k m : ℕ) → z +ℤ pos (k * DAY_MINUTES) ≡ pos m → int_div_euclid z (pos DAY_MINUTES) +ℤ pos k ≡ pos (m / DAY_MINUTES)
 quotient_moved (pos a) k m h = omega (arith, ints)
 quotient_moved (negsuc a) k m h = omega (arith, ints)
 
 -- the padding is whole days
-pub padding_days : (params : Params) → unit_minutes params * pad_units params ≡ pad_days * 1440
+pub padding_days : (params : Params) → unit_minutes params * pad_units params ≡ pad_days * DAY_MINUTES
 padding_days (UsProperty berth days start) = omega arith
 padding_days (Canada berth way cycle start) = omega arith
 padding_days Hvnl = omega arith
@@ -26,4 +26,4 @@ padding_days Hvnl = omega arith
 pub number_of_day : (params : Params) (first i : ℕ) → day_start params ≤ DAY_MINUTES → IsNumberOfDay (day_at params first i) (day_number params first i)
 number_of_day params first i l =
     let e = padding_days params in
-    quotient_moved (minute_at params first i -ℤ pos (day_start params)) (pad_days + 1) (first + unit_minutes params * i + (1440 - day_start params)) (omega (arith, ints))
+    quotient_moved (minute_at params first i -ℤ pos (day_start params)) (pad_days + 1) (first + unit_minutes params * i + (DAY_MINUTES - day_start params)) (omega (arith, ints))
