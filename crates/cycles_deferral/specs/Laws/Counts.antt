@@ -15,6 +15,7 @@ use Rattle.duty_core.specs.Counting.{duty, IsLastEnd}
 use Rattle.duty_core.specs.Laws.CountLaws.{count_more, count_none}
 use Rattle.duty_core.specs.Laws.LostLaws.{works_is}
 use Rattle.duty_core.specs.CaCycle.{cycle_days, cycle_reset}
+use Rattle.duty_core.specs.Stretch.{IsRest}
 use Rattle.duty_core.specs.PlainlyBetter.{IsLastDayOff}
 use Rattle.day_sums.specs.Sums.{cleared}
 use Rattle.day_sums.specs.Laws.SumLaws.{length-added, length-cleared}
@@ -53,8 +54,9 @@ is_turn day days p some =
 
 -- # The day off at one more minute
 
-day_off_at_duty : (p : List Activity) (x : Activity) (e : ℕ) → rests x ≡ false → IsLastDayOff p e → IsLastDayOff (p ++ x ∷ []) e
-day_off_at_duty p x e r h =
+-- the last day off stays, where none ends with the minute
+day_off_stays : (p : List Activity) (x : Activity) (e : ℕ) → ((c : ℕ) → CA_DAY_OFF ≤ c → length p < c → c ≤ length (p ++ x ∷ []) → IsRest (p ++ x ∷ []) (c - CA_DAY_OFF) c → ⊥) → IsLastDayOff p e → IsLastDayOff (p ++ x ∷ []) e
+day_off_stays p x e none h =
     let n = length_more p x in
     let i = h.before in
     let t = h.there in
@@ -62,28 +64,19 @@ day_off_at_duty p x e r h =
       there = t;
       before = omega arith;
       rest = λ k a b. rest_front p x k (omega arith) ∙ h.rest k a b;
-      last = λ c l g m. elim (cases_lt (length p) c) [
-        | inl lt ↦ absurd (let z : true ≡ false = sym (g (length p) (omega arith) lt) ∙ (rest_last p x ∙ r) in cc)
-        | inr le ↦ h.last c l (λ k a b. rest_less p x k (g k a b)) le
-      ];
+      last = λ c l g m. elim (cases_lt (length p) c) [ inl lt ↦ absurd (none c l lt m g) | inr le ↦ h.last c l (λ k a b. rest_less p x k (g k a b)) le ];
     }
+
+day_off_at_duty : (p : List Activity) (x : Activity) (e : ℕ) → rests x ≡ false → IsLastDayOff p e → IsLastDayOff (p ++ x ∷ []) e
+day_off_at_duty p x e r = let n = length_more p x in day_off_stays p x e (λ c l lt most g. let z : true ≡ false = sym (g (length p) (omega arith) lt) ∙ (rest_last p x ∙ r) in cc)
 
 day_off_at_rest : (p : List Activity) (x : Activity) (e run : ℕ) → run + 1 < CA_DAY_OFF → EndsIn p run → IsLastDayOff p e → IsLastDayOff (p ++ x ∷ []) e
 day_off_at_rest p x e run l ends h =
     let n = length_more p x in
     let i = h.before in
     let t = h.there in
-    record {
-      there = t;
-      before = omega arith;
-      rest = λ k a b. rest_front p x k (omega arith) ∙ h.rest k a b;
-      last = λ c m g o. elim (cases_lt (length p) c) [
-        | inl lt ↦ (
-            let k : ℕ = length p - run - 1 in
-            absurd (let z : true ≡ false = sym (rest_less p x k (g k (omega arith) (omega arith))) ∙ ends.starts k (omega arith) in cc))
-        | inr le ↦ h.last c m (λ k a b. rest_less p x k (g k a b)) le
-      ];
-    }
+    let k : ℕ = length p - run - 1 in
+    day_off_stays p x e (λ c least lt most g. let z : true ≡ false = sym (rest_less p x k (g k (omega arith) (omega arith))) ∙ ends.starts k (omega arith) in cc) h
 
 day_off_now : (p : List Activity) (run : ℕ) → CA_DAY_OFF ≤ run → EndsIn p run → IsLastDayOff p (length p)
 day_off_now p run l ends = let t = ends.there in record {

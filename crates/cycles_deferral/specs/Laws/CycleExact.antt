@@ -8,8 +8,7 @@ use Rattle.duty_core.specs.declared.activity.Activity.{Activity}
 use Rattle.duty_core.specs.declared.activity.Activity.TheVariants.{Drive, Serve, Wait, Off, Berth}
 use Rattle.duty_core.specs.declared.limits.TheConstants.{CA_CYCLE_2, CA_DAY_OFF, CA_WITHOUT_DAY_OFF_LIMIT}
 use Rattle.duty_core.specs.Activity.{rests, drives}
-use Rattle.duty_core.specs.History.{unit_at}
-use Rattle.duty_core.specs.Laws.HistoryLaws.{unit_at-last, IsRule, holds_more, holds_before, holds_after, holds_padding}
+use Rattle.duty_core.specs.Laws.HistoryLaws.{unit_at-last, not_driving, IsRule, holds_more, holds_before, holds_after, holds_padding}
 use Rattle.duty_core.specs.Laws.RunLaws.{ends_padding, run_inside}
 use Rattle.duty_core.specs.Counting.{duty, IsLastEnd, IsDaysBase}
 use Rattle.duty_core.specs.Laws.UniqueLaws.{last_end_unique}
@@ -169,9 +168,6 @@ driving_complete day days p s h g =
     (both_true (nat_le (sum t.sums) (cycle_limit s.cycle)) (nat_le t.without CA_WITHOUT_DAY_OFF_LIMIT) (upto_true (sum t.sums) (cycle_limit s.cycle) (omega arith)) (upto_true t.without CA_WITHOUT_DAY_OFF_LIMIT m))
 
 -- # At any minute
-
-not_driving : (p : List Activity) (x : Activity) → drives x ≡ false → unit_at (p ++ x ∷ []) (length p) ≡ Drive → ⊥
-not_driving p x d e = let z : true ≡ false = sym (ap drives e) ∙ (ap drives (unit_at-last p x) ∙ d) in cc
 
 idle_keeps : (cycle : ℕ) (day : ℕ → ℕ) (p : List Activity) (x : Activity) → drives x ≡ false → KeepsCycle cycle day (p ++ x ∷ []) (length p)
 idle_keeps cycle day p x e = ((λ d. absurd (not_driving p x e d)), (λ d. absurd (not_driving p x e d)), (λ two d. absurd (not_driving p x e d)))

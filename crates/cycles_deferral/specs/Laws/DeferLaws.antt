@@ -17,7 +17,7 @@ use Rattle.cycles_deferral.specs.Laws.LostSteps.{rests_past, length_more, rest_f
 use Rattle.cycles_deferral.specs.LostSteps.{IsOpenRun}
 use Rattle.cycles_deferral.specs.Laws.Tracks.{lost_later, lost_earlier, days_near, days_up_to}
 use Rattle.cycles_deferral.specs.Knows.{HasRestSoFar, IsLongest, IsClocked, Knows}
-use Rattle.cycles_deferral.specs.Laws.Knows.{clock_last, clock_over}
+use Rattle.cycles_deferral.specs.Laws.Knows.{rest_carried, clock_last, clock_over}
 
 -- each day that loses more than its limit is deferred
 abbrev pub AllDeferred : (ℕ → ℕ) → List Activity → Type 0
@@ -123,6 +123,19 @@ defer_complete day days p x s r h clock g =
 has_fewer : (day : ℕ → ℕ) (p : List Activity) (m n j : ℕ) → m ≤ n → HasRestIn day p n j → HasRestIn day p m j
 has_fewer day p m n j l h = record { from = h.from; to = h.to; at = h.at; rest = h.rest; long = (let a = h.long in omega arith); after = h.after; before = h.before; of_day = h.of_day }
 
+-- a deferral of one history is one of another that loses no more in both days, and has the rest where the first has it
+deferral_carried : (day : ℕ → ℕ) (p q : List Activity) (j : ℕ) → CA_LOST_LIMIT < lost day q j → lost day q j ≤ lost day p j → lost day q (j + 1) ≤ lost day p (j + 1) →
+    (HasRestIn day p (needed (lost day p j)) (j + 1) → HasRestIn day q (needed (lost day p j)) (j + 1)) → IsDeferral day p j → IsDeferral day q j
+deferral_carried day p q j least less less_next rest h =
+    let m = h.most in
+    let b = h.both in
+    record {
+      least = least;
+      most = omega arith;
+      both = omega arith;
+      rest = has_fewer day q (needed (lost day q j)) (needed (lost day p j)) (j + 1) (omega arith) (rest h.rest);
+    }
+
 longest_gives : (day : ℕ → ℕ) (p : List Activity) (m b j : ℕ) → IsLongest day p j b → 1 ≤ m → m ≤ b → HasRestIn day p m j
 longest_gives day p m b j h l k = has_fewer day p m b j k (h.has (omega arith)).rest
 
@@ -221,14 +234,7 @@ defer_sound day days p x r s w run h clock old g j l =
                 let b = lost_earlier day days p x r (j + 1) w run (omega arith) in
                 let o = old j (omega arith) in
                 let om = o.most in
-                let ob = o.both in
-                record {
-                  least = l;
-                  most = omega arith;
-                  both = omega arith;
-                  rest = older_has day days p x (needed (lost day v j)) (j + 1) (omega arith) (omega arith)
-                      (subst (λ m. HasRestIn day p m (j + 1)) (let z : needed (lost day p j) ≡ needed (lost day v j) = omega arith in z) o.rest);
-                })
+                deferral_carried day p v j l (omega arith) (omega arith) (older_has day days p x (needed (lost day p j)) (j + 1) (omega arith) (omega arith)) o)
           ]
         ]
       ]
@@ -250,45 +256,11 @@ pub deferred_at_rest : (day : ℕ → ℕ) (p : List Activity) (x : Activity) �
 deferred_at_rest day p x r h j l =
     let a = lost_at_rest day p x j r in
     let b = lost_at_rest day p x (j + 1) r in
-    let q = h j (omega arith) in
-    let qm = q.most in
-    let qb = q.both in
-    record {
-      least = l;
-      most = omega arith;
-      both = omega arith;
-      rest = subst (λ m. HasRestIn day (p ++ x ∷ []) m (j + 1)) (let z : needed (lost day p j) ≡ needed (lost day (p ++ x ∷ []) j) = omega arith in z) (record {
-        from = q.rest.from;
-        to = q.rest.to;
-        at = q.rest.at;
-        rest = λ k c e. rest_more p x k r ∙ q.rest.rest k c e;
-        long = q.rest.long;
-        after = q.rest.after;
-        before = q.rest.before;
-        of_day = q.rest.of_day;
-      });
-    }
+    deferral_carried day p (p ++ x ∷ []) j l (omega arith) (omega arith) (λ g. rest_carried day p (p ++ x ∷ []) _ (j + 1) g (λ k e s. rest_more p x k r ∙ s)) (h j (omega arith))
 
 -- without the last minute
 pub deferred_less : (day : ℕ → ℕ) (p : List Activity) (x : Activity) → AllDeferred day (p ++ x ∷ []) → AllDeferred day p
 deferred_less day p x h j l =
     let a = lost_less day p x j in
     let b = lost_less day p x (j + 1) in
-    let q = h j (omega arith) in
-    let qm = q.most in
-    let qb = q.both in
-    record {
-      least = l;
-      most = omega arith;
-      both = omega arith;
-      rest = has_fewer day p (needed (lost day p j)) (needed (lost day (p ++ x ∷ []) j)) (j + 1) (omega arith) (record {
-        from = q.rest.from;
-        to = q.rest.to;
-        at = q.rest.at;
-        rest = λ k c e. rest_less p x k (q.rest.rest k c e);
-        long = q.rest.long;
-        after = q.rest.after;
-        before = q.rest.before;
-        of_day = q.rest.of_day;
-      });
-    }
+    deferral_carried day (p ++ x ∷ []) p j l a b (λ g. rest_carried day (p ++ x ∷ []) p _ (j + 1) g (λ k e. rest_less p x k)) (h j (omega arith))

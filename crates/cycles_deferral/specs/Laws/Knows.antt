@@ -6,7 +6,9 @@ use Rattle.std.proofs.lemmas.Bool.Decides.{nat_tests}
 use Rattle.duty_core.specs.declared.activity.Activity.{Activity}
 use Rattle.duty_core.specs.declared.limits.TheConstants.{DAY_MINUTES}
 use Rattle.duty_core.specs.Activity.{rests}
+use Rattle.duty_core.specs.History.{unit_at}
 use Rattle.duty_core.specs.Stretch.{IsRest}
+use Rattle.duty_core.specs.Deferral.{HasRestIn}
 use Rattle.cycles_deferral.specs.declared.days.TheConstants.{NEEDED_LIMIT}
 use Rattle.cycles_deferral.specs.declared.days.CanadaDays.{CanadaDays}
 use Rattle.cycles_deferral.specs.DayMachine.{days_turned, minute_on, rest_on, days_rested, days_worked}
@@ -55,38 +57,29 @@ knows_turned day p d s len e h = record {
 
 -- # Stretches at one more minute
 
+-- a stretch of one history is one of another that rests wherever the stretch does
+pub rest_carried : (day : ℕ → ℕ) (p q : List Activity) (m j : ℕ) (h : HasRestIn day p m j) → ((k : ℕ) → k < h.to → rests (unit_at p k) ≡ true → rests (unit_at q k) ≡ true) → HasRestIn day q m j
+rest_carried day p q m j h rest_too = record {
+  from = h.from;
+  to = h.to;
+  at = h.at;
+  rest = λ k a b. rest_too k b (h.rest k a b);
+  long = h.long;
+  after = h.after;
+  before = h.before;
+  of_day = h.of_day;
+}
+
 has_more : (day : ℕ → ℕ) (p : List Activity) (x : Activity) (m j : ℕ) → HasRestSoFar day p m j → HasRestSoFar day (p ++ x ∷ []) m j
+unfolding rest_carried
 has_more day p x m j h =
     let n = length_more p x in
     let i = h.inside in
-    record {
-      rest = record {
-        from = h.rest.from;
-        to = h.rest.to;
-        at = h.rest.at;
-        rest = λ k a b. rest_front p x k (omega arith) ∙ h.rest.rest k a b;
-        long = h.rest.long;
-        after = h.rest.after;
-        before = h.rest.before;
-        of_day = h.rest.of_day;
-      };
-      inside = omega arith;
-    }
+    record { rest = rest_carried day p (p ++ x ∷ []) m j h.rest (λ k b r. rest_front p x k (omega arith) ∙ r); inside = omega arith }
 
 has_less : (day : ℕ → ℕ) (p : List Activity) (x : Activity) (m j : ℕ) (h : HasRestSoFar day (p ++ x ∷ []) m j) → h.rest.to ≤ length p → HasRestSoFar day p m j
-has_less day p x m j h i = record {
-  rest = record {
-    from = h.rest.from;
-    to = h.rest.to;
-    at = h.rest.at;
-    rest = λ k a b. rest_less p x k (h.rest.rest k a b);
-    long = h.rest.long;
-    after = h.rest.after;
-    before = h.rest.before;
-    of_day = h.rest.of_day;
-  };
-  inside = i;
-}
+unfolding rest_carried
+has_less day p x m j h i = record { rest = rest_carried day (p ++ x ∷ []) p m j h.rest (λ k b. rest_less p x k); inside = i }
 
 -- a stretch with a minute before the minute of duty ends before it
 has_before_duty : (day : ℕ → ℕ) (p : List Activity) (x : Activity) (m j : ℕ) → rests x ≡ false → HasRestSoFar day (p ++ x ∷ []) m j → HasRestSoFar day p m j

@@ -1,15 +1,15 @@
 -- Places of a history, one more unit, and rest after it.
-use Rattle.std.proofs.Common.{◌≡◌, ℕ, ◌+◌, ◌-◌, ◌<◌, ◌≤◌, Bool, true, List, [], ◌∷◌, ◌++◌, length, take, sym, refl, ◌∙◌, ap, subst, arith, length-append, inl, inr, zero, suc}
+use Rattle.std.proofs.Common.{◌≡◌, ℕ, ◌+◌, ◌-◌, ◌<◌, ◌≤◌, Bool, true, false, List, [], ◌∷◌, ◌++◌, length, take, sym, refl, ◌∙◌, ap, subst, arith, length-append, inl, inr, zero, suc}
 use Rattle.std.specs.Prelude.{replicate}
 use Rattle.std.proofs.Math.ListN.{get_or-append}
 use Rattle.std.proofs.Math.Seq.{get_or-append_seam, get_or-append_right}
 use Rattle.std.proofs.lemmas.Bool.{cases_lt}
 use Rattle.std.proofs.lemmas.List.{take-append-le, get_or_past}
 use Rattle.duty_core.specs.declared.activity.Activity.{Activity}
-use Rattle.duty_core.specs.declared.activity.Activity.TheVariants.{Off}
+use Rattle.duty_core.specs.declared.activity.Activity.TheVariants.{Drive, Off}
 use Rattle.duty_core.specs.declared.params.Params.TheVariants.{UsProperty}
 use Rattle.duty_core.specs.declared.limits.TheConstants.{US_FULL_REST}
-use Rattle.duty_core.specs.Activity.{rests}
+use Rattle.duty_core.specs.Activity.{rests, drives}
 use Rattle.duty_core.specs.Params.{BeginsUnit}
 use Rattle.duty_core.specs.History.{pad_days, pad_units, unit_at}
 
@@ -28,6 +28,10 @@ unit_at-append p q i h = get_or-append p q Off i h
 
 pub unit_at-last : (p : List Activity) (x : Activity) → unit_at (p ++ x ∷ []) (length p) ≡ x
 unit_at-last p x = get_or-append_seam p x [] Off
+
+-- a last unit that is no driving is no unit of driving
+pub not_driving : (p : List Activity) (x : Activity) → drives x ≡ false → unit_at (p ++ x ∷ []) (length p) ≡ Drive → ⊥
+not_driving p x d e = let z : true ≡ false = sym (ap drives e) ∙ (ap drives (unit_at-last p x) ∙ d) in cc
 
 -- past the end there is rest
 pub unit_at-past : (p : List Activity) (i : ℕ) → length p ≤ i → unit_at p i ≡ Off
