@@ -4,6 +4,7 @@ use Rattle.std.proofs.lemmas.List.{take_all}
 use Rattle.jiff_core.specs.declared.civil.date.Date.{Date}
 use Rattle.jiff_core.proofs.SignedLemmas.{signed_arith}
 use Rattle.jiff_core.proofs.CalendarLemmas.{days_in_month_bounds}
+use Rattle.duty_core.specs.declared.limits.TheConstants.{DAY_MINUTES}
 use Rattle.civil_minutes.specs.Time.{digit, time_text, days_after_2000, minutes_until, IsTime, IsTimeText, IsBadFrom}
 use Rattle.civil_minutes.specs.Fields.{IsOfCentury, BeginsWithTime}
 use Rattle.civil_minutes.proofs.CenturyDates.{civil_from_date, same_parts}
@@ -71,7 +72,7 @@ pub bad_end : (text : List ℕ) (date : Date) (minutes : ℕ) → BeginsWithTime
 bad_end text date minutes b long = bad_after text (opens_whole text date minutes (omega arith) b) long
 
 -- a text that ends with the time
-pub time_read : (text : List ℕ) (date : Date) (minutes before : ℕ) → BeginsWithTime text date minutes → length text ≤ 16 → pos before ≡ days_after_2000 date.year date.month date.day *ℤ pos 1440 → IsTimeText text (before + minutes)
+pub time_read : (text : List ℕ) (date : Date) (minutes before : ℕ) → BeginsWithTime text date minutes → length text ≤ 16 → pos before ≡ days_after_2000 date.year date.month date.day *ℤ pos DAY_MINUTES → IsTimeText text (before + minutes)
 time_read text date minutes before b short e =
     record {
       year = b.year;
@@ -86,7 +87,7 @@ time_read text date minutes before b short e =
 
 -- ---- what is written
 
-pub time_written : (at : ℕ) (date : Date) (year month day hour minute : ℕ) → date.year ≡ pos (2000 + year) → year < 100 → month ≡ date.month → day ≡ date.day → hour ≡ at % 1440 / 60 → minute ≡ at % 1440 % 60 → days_after_2000 date.year date.month date.day ≡ pos (at / 1440) → IsTimeText (time_text (2000 + year) month day hour minute) at
+pub time_written : (at : ℕ) (date : Date) (year month day hour minute : ℕ) → date.year ≡ pos (2000 + year) → year < 100 → month ≡ date.month → day ≡ date.day → hour ≡ at % DAY_MINUTES / 60 → minute ≡ at % DAY_MINUTES % 60 → days_after_2000 date.year date.month date.day ≡ pos (at / DAY_MINUTES) → IsTimeText (time_text (2000 + year) month day hour minute) at
 time_written at date year month day hour minute is small month_is day_is hour_is minute_is days =
     let of : IsOfCentury date (2000 + year) = record { is = is; century = (omega arith, omega arith) } in
     rw (month_is, day_is) record {

@@ -2,6 +2,7 @@
 use Rattle.std.specs.Prelude.{◌≡◌, ℕ, ◌+◌, ◌*◌, ◌/◌, ◌%◌, ◌<◌, ◌⊎◌, ℤ, pos, ◌+ℤ◌, ◌-ℤ◌, ◌*ℤ◌, List, [], ◌∷◌, ◌++◌, length, take}
 use Rattle.std.specs.Int.{IsInRange}
 use Rattle.jiff_core.specs.Calendar.{IsDate, days_from_civil}
+use Rattle.duty_core.specs.declared.limits.TheConstants.{DAY_MINUTES}
 
 -- the byte of a number's last decimal digit
 abbrev pub digit : ℕ → ℕ
@@ -37,7 +38,7 @@ days_after_2000 year month day = days_from_civil year month day -ℤ days_from_c
 
 -- the minutes from 2000-01-01T00:00 to a time
 abbrev pub minutes_until : ℕ → ℕ → ℕ → ℕ → ℕ → ℤ
-minutes_until year month day hour minute = days_after_2000 (pos year) month day *ℤ pos 1440 +ℤ pos (hour * 60 + minute)
+minutes_until year month day hour minute = days_after_2000 (pos year) month day *ℤ pos DAY_MINUTES +ℤ pos (hour * 60 + minute)
 
 -- The parts name a time of the years 2000 to 2099.
 pub record IsTime (year month day hour minute : ℕ) : Type 0 where

@@ -1,12 +1,13 @@
 //! Reading the text of a time.
 ghost use Rattle.std.specs.Prelude.{◌≡◌, ℕ, ◌+◌, ◌<◌, ◌≤◌, Ok, IfOk, IfErr, pos, ◌*ℤ◌};
 ghost use Rattle.jiff.specs.Words.{IsBetween};
+ghost use Rattle.duty_core.specs.declared.limits.TheConstants.{DAY_MINUTES};
 ghost use Rattle.civil_minutes.specs.Time.{IsTimeText, IsBadFrom, days_after_2000};
 ghost use Rattle.civil_minutes.specs.Fields.{BeginsWithMonth, BeginsWithDate, BeginsWithTime};
 
-use crate::century::{FIRST_EPOCH_DAY, MINUTES_OF_CENTURY, MINUTES_OF_DAY};
+use crate::century::{FIRST_EPOCH_DAY, MINUTES_OF_CENTURY};
 use crate::fields::{read_mark, read_pair};
-use duty_core::Minute;
+use duty_core::{DAY_MINUTES, Minute};
 use jiff::civil::{Date, date};
 
 /// A text that is of no time of the years 2000 to 2099.
@@ -74,9 +75,9 @@ fn read_clock(text: &[u8], date: Date) -> Result<u16, BadTime>
 /// The minutes from 2000-01-01T00:00 to the date's midnight.
 fn minutes_before(date: Date) -> u32
     requires { IsBetween (pos 2000) (pos 2099) date.year }
-    ensures value { pos result ≡ days_after_2000 date.year date.month date.day *ℤ pos 1440 }
-    ensures range { result + 1440 ≤ MINUTES_OF_CENTURY }
+    ensures value { pos result ≡ days_after_2000 date.year date.month date.day *ℤ pos DAY_MINUTES }
+    ensures range { result + DAY_MINUTES ≤ MINUTES_OF_CENTURY }
 {
     let days = date.to_plain().to_unix_epoch_day() - FIRST_EPOCH_DAY;
-    days as u32 * MINUTES_OF_DAY
+    days as u32 * DAY_MINUTES
 }

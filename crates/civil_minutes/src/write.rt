@@ -1,10 +1,11 @@
 //! Writing a civil minute as the text of its time.
 ghost use Rattle.std.specs.Prelude.{◌≡◌, ℕ, ◌+◌, ◌<◌, ◌/◌, List, pos};
 ghost use Rattle.jiff.specs.Words.{IsBetween};
+ghost use Rattle.duty_core.specs.declared.limits.TheConstants.{DAY_MINUTES};
 ghost use Rattle.civil_minutes.specs.Time.{IsTimeText, digit, time_text, days_after_2000};
 
-use crate::century::{MINUTES_OF_CENTURY, MINUTES_OF_DAY};
-use duty_core::Minute;
+use crate::century::MINUTES_OF_CENTURY;
+use duty_core::{DAY_MINUTES, Minute};
 use jiff::ToSpan;
 use jiff::civil::{Date, date};
 
@@ -15,7 +16,7 @@ pub fn write_minute(at: Minute) -> [u8; 16]
     ensures only { (text : List ℕ) → IsTimeText text at → text ≡ result }
 {
     let date = date_of(at);
-    let minutes = at % MINUTES_OF_DAY;
+    let minutes = at % DAY_MINUTES;
     spell(
         (date.year() - 2000) as u8,
         date.month() as u8,
@@ -28,10 +29,10 @@ pub fn write_minute(at: Minute) -> [u8; 16]
 /// The date of a civil minute.
 fn date_of(at: Minute) -> Date
     requires { at < MINUTES_OF_CENTURY }
-    ensures day { days_after_2000 result.year result.month result.day ≡ pos (at / 1440) }
+    ensures day { days_after_2000 result.year result.month result.day ≡ pos (at / DAY_MINUTES) }
     ensures year { IsBetween (pos 2000) (pos 2099) result.year }
 {
-    let days = i64::from(at / MINUTES_OF_DAY);
+    let days = i64::from(at / DAY_MINUTES);
     date(2000, 1, 1) + days.days()
 }
 

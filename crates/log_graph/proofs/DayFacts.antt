@@ -61,9 +61,9 @@ record IsDayOf (params : Params) (at begin : ℕ) : Type 0 where
 day_found : (params : Params) (at : ℕ) → AreGoodParams params → DAY_MINUTES ≤ at → IsDayOf params at (day_begin params at)
 day_found params at good early =
     let start = day_start params in
-    let within : start < 1440 = start_within params good in
+    let within : start < DAY_MINUTES = start_within params good in
     record {
-      begins = record { days = (at + (1440 - start)) / 1440 - 1; whole = omega arith };
+      begins = record { days = (at + (DAY_MINUTES - start)) / DAY_MINUTES - 1; whole = omega arith };
       after = omega arith;
       near = omega arith;
     }

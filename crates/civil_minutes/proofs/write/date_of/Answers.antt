@@ -3,6 +3,7 @@ use Rattle.std.proofs.lemmas.Int.{ints, to_z-of_z}
 use Rattle.jiff_core.specs.Date.{epoch_day}
 use Rattle.jiff_core.proofs.DateLemmas.{civil}
 use Rattle.jiff.proofs.SpanFacts.{date_add-days, can_add-days}
+use Rattle.duty_core.specs.declared.limits.TheConstants.{DAY_MINUTES}
 use Rattle.civil_minutes.specs.Time.{days_after_2000}
 use Rattle.civil_minutes.proofs.CenturyDates.{first_day_number, first_epoch_day, year_within}
 use Rattle.civil_minutes.proofs.write.date_of.Goals as goal
@@ -21,7 +22,7 @@ returns-clause-day c =
     let first = first_day_number c.date.result c.date.ensures in
     let moved = date_add-days c.date.result c.from-days.result c.days.result only in
     let is : epoch_day c.add.result ≡ epoch_day c.date.result +ℤ c.from-days.result = c.add.ensures ∙ moved in
-    let number : days_after_2000 c.add.result.year c.add.result.month c.add.result.day ≡ pos (c.args.at / 1440) = rw first_epoch_day (omega (arith, ints, is, first, c.from-days.ensures)) in
+    let number : days_after_2000 c.add.result.year c.add.result.month c.add.result.day ≡ pos (c.args.at / DAY_MINUTES) = rw first_epoch_day (omega (arith, ints, is, first, c.from-days.ensures)) in
     number
 
 pub returns-clause-year : goal.returns-clause-year
@@ -31,5 +32,5 @@ returns-clause-year c =
     let first = first_day_number c.date.result c.date.ensures in
     let moved = date_add-days c.date.result c.from-days.result c.days.result only in
     let is : epoch_day c.add.result ≡ epoch_day c.date.result +ℤ c.from-days.result = c.add.ensures ∙ moved in
-    let number : days_after_2000 c.add.result.year c.add.result.month c.add.result.day ≡ pos (c.args.at / 1440) = rw first_epoch_day (omega (arith, ints, is, first, c.from-days.ensures)) in
+    let number : days_after_2000 c.add.result.year c.add.result.month c.add.result.day ≡ pos (c.args.at / DAY_MINUTES) = rw first_epoch_day (omega (arith, ints, is, first, c.from-days.ensures)) in
     year_within _ _ _ (civil c.add.result) (omega (arith, ints, number), omega (arith, ints, number))
