@@ -54,6 +54,10 @@ one_text a b at h k =
 
 -- ---- what has been read
 
+-- the parts that have been read are those of a time
+time_begun : (text : List ℕ) (date : Date) (minutes : ℕ) (b : BeginsWithTime text date minutes) → IsTime b.year date.month date.day b.hour b.minute
+time_begun text date minutes b = is_time date b.year date.day b.hour b.minute b.of_century (within_month date b.year b.of_century) b.hour_below b.minute_below
+
 -- the first 16 bytes are those of a time
 opens_whole : (text : List ℕ) (date : Date) (minutes : ℕ) → 16 ≤ length text → BeginsWithTime text date minutes → Opens text 16
 opens_whole text date minutes long b =
@@ -63,7 +67,7 @@ opens_whole text date minutes long b =
       day = date.day;
       hour = b.hour;
       minute = b.minute;
-      time = is_time date b.year date.day b.hour b.minute b.of_century (within_month date b.year b.of_century) b.hour_below b.minute_below;
+      time = time_begun text date minutes b;
       agrees = record { inside = long; same = b.begins };
     }
 
@@ -80,7 +84,7 @@ time_read text date minutes before b short e =
       day = date.day;
       hour = b.hour;
       minute = b.minute;
-      time = is_time date b.year date.day b.hour b.minute b.of_century (within_month date b.year b.of_century) b.hour_below b.minute_below;
+      time = time_begun text date minutes b;
       spelled = sym (take_all 16 text short) ∙ b.begins;
       counted = rw (← b.of_century.is) (omega (arith, signed_arith, e, b.sum));
     }

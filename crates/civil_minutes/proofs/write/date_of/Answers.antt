@@ -22,15 +22,9 @@ returns-clause-day c =
     let first = first_day_number c.date.result c.date.ensures in
     let moved = date_add-days c.date.result c.from-days.result c.days.result only in
     let is : epoch_day c.add.result ≡ epoch_day c.date.result +ℤ c.from-days.result = c.add.ensures ∙ moved in
-    let number : days_after_2000 c.add.result.year c.add.result.month c.add.result.day ≡ pos (c.args.at / DAY_MINUTES) = rw first_epoch_day (omega (arith, ints, is, first, c.from-days.ensures)) in
-    number
+    rw first_epoch_day (omega (arith, ints, is, first, c.from-days.ensures))
 
 pub returns-clause-year : goal.returns-clause-year
 returns-clause-year c =
-    let fits : FitsSigned w64 c.from-days.result = omega (arith, ints, c.from-days.ensures) in
-    let only = simp to_z-of_z at c.days.ensures in
-    let first = first_day_number c.date.result c.date.ensures in
-    let moved = date_add-days c.date.result c.from-days.result c.days.result only in
-    let is : epoch_day c.add.result ≡ epoch_day c.date.result +ℤ c.from-days.result = c.add.ensures ∙ moved in
-    let number : days_after_2000 c.add.result.year c.add.result.month c.add.result.day ≡ pos (c.args.at / DAY_MINUTES) = rw first_epoch_day (omega (arith, ints, is, first, c.from-days.ensures)) in
+    let number : days_after_2000 c.add.result.year c.add.result.month c.add.result.day ≡ pos (c.args.at / DAY_MINUTES) = returns-clause-day c in
     year_within _ _ _ (civil c.add.result) (omega (arith, ints, number), omega (arith, ints, number))
