@@ -17,4 +17,5 @@ pub mod BookLaws
 pub mod BetweenLaws
 pub mod RestLaws
 pub mod MarkLaws
+pub mod MarkMinuteLaws
 pub mod CountBaseLaws

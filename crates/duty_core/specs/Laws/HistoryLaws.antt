@@ -1,17 +1,18 @@
 -- Places of a history, one more unit, and rest after it.
-use Rattle.std.proofs.Common.{◌≡◌, ℕ, ◌+◌, ◌-◌, ◌<◌, ◌≤◌, Bool, true, false, List, [], ◌∷◌, ◌++◌, length, take, sym, refl, ◌∙◌, ap, subst, arith, length-append, inl, inr, zero, suc}
+use Rattle.std.proofs.Common.{◌≡◌, ℕ, ◌+◌, ◌-◌, ◌*◌, ◌<◌, ◌≤◌, Bool, true, false, List, [], ◌∷◌, ◌++◌, length, take, sym, refl, ◌∙◌, ap, subst, arith, length-append, inl, inr, zero, suc}
 use Rattle.std.specs.Prelude.{replicate}
 use Rattle.std.proofs.Math.ListN.{get_or-append}
 use Rattle.std.proofs.Math.Seq.{get_or-append_seam, get_or-append_right}
 use Rattle.std.proofs.lemmas.Bool.{cases_lt}
-use Rattle.std.proofs.lemmas.List.{take-append-le, get_or_past}
+use Rattle.std.proofs.lemmas.List.{take-append-le, get_or_past, length-replicate}
 use Rattle.duty_core.specs.declared.activity.Activity.{Activity}
 use Rattle.duty_core.specs.declared.activity.Activity.TheVariants.{Drive, Off}
+use Rattle.duty_core.specs.declared.params.Params.{Params}
 use Rattle.duty_core.specs.declared.params.Params.TheVariants.{UsProperty}
 use Rattle.duty_core.specs.declared.limits.TheConstants.{US_FULL_REST}
 use Rattle.duty_core.specs.Activity.{rests, drives}
 use Rattle.duty_core.specs.Params.{BeginsUnit}
-use Rattle.duty_core.specs.History.{pad_days, pad_units, unit_at}
+use Rattle.duty_core.specs.History.{pad_days, pad_units, padding, padded, unit_at}
 
 -- the padding of the United States is a full rest
 pub us_padding_long : (berth : Bool) (days day_start : ℕ) → US_FULL_REST ≤ pad_units (UsProperty berth days day_start)
@@ -47,6 +48,14 @@ unit_at-after p n i h = get_or-append_right p (replicate n Off) i Off h ∙ unit
 
 pub length-one_more : (p : List Activity) (x : Activity) → length (p ++ x ∷ []) ≡ length p + 1
 length-one_more p x = omega (arith, length-append p (x ∷ []))
+
+-- a padded history is longer by the padding twice
+pub length-padded : (params : Params) (h : List Activity) → length (padded params h) ≡ 2 * pad_units params + length h
+length-padded params h =
+    let a = length-append (padding params ++ h) (padding params) in
+    let b = length-append (padding params) h in
+    let c = length-replicate (pad_units params) Off in
+    omega (arith, a, b, c)
 
 -- The two lists are alike below place n.
 pub record AreAlike (p q : List Activity) (n : ℕ) : Type 0 where
