@@ -4,7 +4,7 @@ ghost use Rattle.cycles_deferral.specs.DayMachine.{day_count};
 ghost use Rattle.canada_rules.specs.Numbers.{ca_numbers, waiting_of, split_of, days_of, cycle_of, is_count, is_days, are_days, is_cycle};
 
 use crate::state::CanadaState;
-use cycles_deferral::{CanadaDays, CycleCount, DayCount};
+use cycles_deferral::{CanadaDays, CycleCount, DayCount, LastDays};
 use day_sums::DaySums;
 use duty_core::RestWay;
 use sleeper_split::{OpenRun, SplitCount, SplitRule, Used, WaitingRest};
@@ -121,13 +121,16 @@ fn parts_of_days(numbers: &[u32], way: RestWay) -> Option<CanadaDays>
     requires { COUNTS ≤ length numbers.now }
     ensures { result ≡ if is_days (days_of way numbers.now) then Some (days_of way numbers.now) else None }
 {
+    let last = LastDays {
+        today: day_by(numbers, 15),
+        yesterday: day_by(numbers, 18),
+        before: item(numbers, 21),
+    };
     CanadaDays::of_parts(
         way,
         item(numbers, 13),
         item(numbers, 14),
-        day_by(numbers, 15),
-        day_by(numbers, 18),
-        item(numbers, 21),
+        last,
         item(numbers, 22) == 1,
     )
 }

@@ -26,6 +26,17 @@ pub struct DayCount {
     pub longest: u32,
 }
 
+/// What is counted of the last three days.
+#[derive(Clone, Copy, Debug, PartialEq, Eq)]
+pub struct LastDays {
+    /// What is counted of today.
+    pub today: DayCount,
+    /// What is counted of yesterday.
+    pub yesterday: DayCount,
+    /// The lost minutes of the day before yesterday.
+    pub before: u32,
+}
+
 /// The lost minutes of three days, with the short rest that may still become lost, and the
 /// deferral in progress (SOR/2005-313, sections 14 and 16). Which values there are is told by
 /// `IsCanadaDays`.
@@ -191,21 +202,19 @@ impl CanadaDays {
         way: RestWay,
         minute: u32,
         rest: u32,
-        today: DayCount,
-        yesterday: DayCount,
-        before: u32,
+        last: LastDays,
         reaches: bool,
     ) -> Option<CanadaDays>
-        ensures some { IsSome result ↔ IsCanadaDays (days_made way minute rest today yesterday before reaches) }
-        ensures parts { IfSome result (λ s. s ≡ days_made way minute rest today yesterday before reaches) }
+        ensures some { IsSome result ↔ IsCanadaDays (days_made way minute rest last.today last.yesterday last.before reaches) }
+        ensures parts { IfSome result (λ s. s ≡ days_made way minute rest last.today last.yesterday last.before reaches) }
     {
         let days = CanadaDays {
             way,
             minute,
             rest,
-            today,
-            yesterday,
-            before,
+            today: last.today,
+            yesterday: last.yesterday,
+            before: last.before,
             reaches,
         };
         days.is_kept().then_some(days)

@@ -10,7 +10,7 @@ mod laws;
 mod tests;
 
 pub use cycle::{CycleCount, SINCE_LIMIT, WITHOUT_LIMIT};
-pub use days::{CanadaDays, DayCount, NEEDED_LIMIT};
+pub use days::{CanadaDays, DayCount, LastDays, NEEDED_LIMIT};
 pub use laws::{
     book_days_are_days, cycle_has_one_path, cycle_is_exact, cycle_stands_on, days_have_one_path,
     days_stand_on, deferred_days_are_exact, split_days_are_exact,

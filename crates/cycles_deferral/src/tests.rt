@@ -6,7 +6,7 @@ ghost use Rattle.cycles_deferral.specs.DayMachine.{IsCanadaDays};
 ghost use Rattle.cycles_deferral.specs.CycleMachine.{IsCycleCount};
 
 use crate::cycle::CycleCount;
-use crate::days::{CanadaDays, DayCount};
+use crate::days::{CanadaDays, DayCount, LastDays};
 use crate::laws::{
     book_days_are_days, cycle_has_one_path, cycle_is_exact, cycle_stands_on, days_have_one_path,
     days_stand_on, deferred_days_are_exact, split_days_are_exact,
@@ -161,11 +161,19 @@ fn days_have_parts(rt: HostRuntime) -> Result<(), Fail> {
         longest: 600,
     };
     assert_eq!(rt; days.today(), today);
-    let yesterday = days.yesterday();
-    let made = CanadaDays::of_parts(days.way(), 1120, 20, today, yesterday, 0, false);
+    let last = LastDays {
+        today,
+        yesterday: days.yesterday(),
+        before: 0,
+    };
+    let made = CanadaDays::of_parts(days.way(), 1120, 20, last, false);
     assert_eq!(rt; made, Some(days));
     let long = DayCount { short: 21, ..today };
-    let none = CanadaDays::of_parts(days.way(), 1120, 20, long, yesterday, 0, false);
+    let longer = LastDays {
+        today: long,
+        ..last
+    };
+    let none = CanadaDays::of_parts(days.way(), 1120, 20, longer, false);
     assert!(rt; none.is_none());
     Ok(())
 }
@@ -178,8 +186,10 @@ fn many_minutes_are_run_at_once(rt: HostRuntime) -> Result<(), Fail> {
     assert_eq!(rt; late.today().lost, 960);
     assert!(rt; days.run(Activity::Serve, true, 0, 961).is_none());
     let count = CycleCount::fresh(1);
-    let tired = count.run(Activity::Drive, true, 1440).ok_or("refused")?;
-    assert_eq!(rt; tired.sums().total(), 1440);
+    let tired = count
+        .run(Activity::Drive, true, DAY_MINUTES)
+        .ok_or("refused")?;
+    assert_eq!(rt; tired.sums().total(), DAY_MINUTES);
     let rested = tired.run(Activity::Off, true, 2160).ok_or("refused")?;
     assert_eq!(rt; rested.sums().total(), 0);
     Ok(())
@@ -247,19 +257,12 @@ fn counted(count: CycleCount, act: Activity, n: u32) -> Option<CycleCount>
     Some(after)
 }
 
-/// The counts with these parts, if after `n` minutes of `act` and one of driving there are any.
-fn drives_after(
-    cycle: u8,
-    rest: u32,
-    sums: &[u32],
-    since: u32,
-    without: u32,
-    act: Activity,
-    n: u32,
-) -> Option<CycleCount> {
+/// The counts of these parts, just after a day off, once `n` minutes of rest and one of driving
+/// have followed, if there are any.
+fn drives_after(cycle: u8, rest: u32, sums: &[u32], without: u32, n: u32) -> Option<CycleCount> {
     let sums = DaySums::of_sums(sums)?;
-    let count = CycleCount::of_parts(cycle, rest, sums, since, without)?;
-    counted(counted(count, act, n)?, Activity::Drive, 1)
+    let count = CycleCount::of_parts(cycle, rest, sums, 0, without)?;
+    counted(counted(count, Activity::Off, n)?, Activity::Drive, 1)
 }
 
 #[test]
@@ -272,7 +275,7 @@ fn a_cycle_ends_at_its_limit_and_begins_anew_after_a_reset(rt: HostRuntime) {
         (full, 1800, 359, false),
         (full, 1800, 360, true),
     ] {
-        let after = drives_after(1, rest, sums.as_slice(), 0, 0, Activity::Off, n);
+        let after = drives_after(1, rest, sums.as_slice(), 0, n);
         assert_eq!(rt; after.is_some(), kept, "cycle 1, {rest} and {n}");
     }
     let full = [
@@ -287,7 +290,7 @@ fn a_cycle_ends_at_its_limit_and_begins_anew_after_a_reset(rt: HostRuntime) {
         (full, 4000, 319, false),
         (full, 4000, 320, true),
     ] {
-        let after = drives_after(2, rest, sums.as_slice(), 0, 0, Activity::Off, n);
+        let after = drives_after(2, rest, sums.as_slice(), 0, n);
         assert_eq!(rt; after.is_some(), kept, "cycle 2, {rest} and {n}");
     }
 }
@@ -355,11 +358,11 @@ fn cycle_2_has_a_day_off_after_seventy_hours(rt: HostRuntime) {
         (2, 4200, 1000, 439, false),
         (2, 4200, 1000, 440, true),
     ] {
-        let after = drives_after(cycle, rest, sums.as_slice(), 0, without, Activity::Off, n);
+        let after = drives_after(cycle, rest, sums.as_slice(), without, n);
         assert_eq!(rt; after.is_some(), kept, "{without}, {rest} and {n}");
     }
     // Cycle 1 doesn't ask for it, and counts nothing for it.
-    let none = drives_after(1, 0, [0; 7].as_slice(), 0, 4200, Activity::Off, 0);
+    let none = drives_after(1, 0, [0; 7].as_slice(), 4200, 0);
     assert!(rt; none.is_none());
 }
 
