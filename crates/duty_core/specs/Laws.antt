@@ -3,6 +3,7 @@ pub mod HistoryLaws
 pub mod RunLaws
 pub mod Day
 pub mod DayLaws
+pub mod MarkedAlikeLaws
 pub mod RuleLaws
 pub mod LostLaws
 pub mod PrefixLaws

@@ -1,5 +1,5 @@
 -- What the rules that are asked at a place look at: nothing after that place, and rest is asked nothing.
-use Rattle.std.proofs.Common.{◌≡◌, ℕ, ◌+◌, ◌<◌, ◌≤◌, true, false, List, drop, sym, ◌∙◌, ap, subst, arith, inl, inr}
+use Rattle.std.proofs.Common.{◌≡◌, ℕ, ◌+◌, ◌<◌, ◌≤◌, true, false, List, drop, sym, ◌∙◌, ap, subst, arith}
 use Rattle.std.specs.Prelude.{Bool, count_by}
 use Rattle.duty_core.specs.declared.activity.Activity.{Activity}
 use Rattle.duty_core.specs.declared.activity.Activity.TheVariants.{Drive}
@@ -7,51 +7,19 @@ use Rattle.duty_core.specs.declared.limits.TheConstants.{US_DRIVING_LIMIT}
 use Rattle.duty_core.specs.Activity.{rests, drives, works}
 use Rattle.duty_core.specs.History.{unit_at, between}
 use Rattle.duty_core.specs.Laws.HistoryLaws.{AreAlike, alike_back, IsRule}
-use Rattle.duty_core.specs.Laws.RunLaws.{run_alike, long_alike}
+use Rattle.duty_core.specs.Laws.RunLaws.{long_alike}
+use Rattle.duty_core.specs.Laws.MarkedAlikeLaws.{one_marking, base_marked}
 use Rattle.duty_core.specs.Counting.{IsLastEnd, CountsInDays, IsDaysBase}
-use Rattle.duty_core.specs.DeclaredRest.{IsDeclared, IsLastDeclared, IsWaiting}
 use Rattle.duty_core.specs.Base.{IsBase}
 use Rattle.duty_core.specs.UsRules.{MeetsUsWindow14, MeetsUsDrive11, IsBreak, IsLastBreak, MeetsUsBreak8, MeetsUsWeek}
 use Rattle.duty_core.specs.CaDay.{MeetsCaDay13, MeetsCaDay14}
 use Rattle.duty_core.specs.CaShift.{MeetsCaShift13, MeetsCaShift14, MeetsCaElapsed16}
 use Rattle.duty_core.specs.CaCycle.{MeetsCa24in14, MeetsCaCycle, MeetsCa70without24}
 
--- # Declared rests and the base
-
-pub declared_alike : {full : ℕ} {p q : List Activity} {n : ℕ} {Marked : ℕ → Type 0} {a b : ℕ} → AreAlike p q n → b < n → IsDeclared full p Marked a b → IsDeclared full q Marked a b
-declared_alike g l h = elim h [
-  | inl f ↦ inl (long_alike g l f)
-  | inr s ↦ inr (record { run = run_alike g l s.run; short = s.short; marked = s.marked })
-]
-
-pub last_declared_alike : {full : ℕ} {p q : List Activity} {n : ℕ} {Marked : ℕ → Type 0} {i a b : ℕ} → AreAlike p q n → i < n → IsLastDeclared full p Marked i a b → IsLastDeclared full q Marked i a b
-last_declared_alike g l h = let z = h.before in record {
-  declared = declared_alike g (omega arith) h.declared;
-  before = z;
-  last = λ c d e y. h.last c d (declared_alike (alike_back g) (omega arith) e) y;
-}
-
-pub waiting_alike : {full : ℕ} {p q : List Activity} {n : ℕ} {Marked : ℕ → Type 0} {i a b : ℕ} → AreAlike p q n → i < n → IsWaiting full p Marked i a b → IsWaiting full q Marked i a b
-waiting_alike g l h = let z = h.last.before in record {
-  last = last_declared_alike g l h.last;
-  split = record { run = run_alike g (omega arith) h.split.run; short = h.split.short; marked = h.split.marked };
-}
+-- # The base, and what is counted
 
 pub base_alike : {full : ℕ} {p q : List Activity} {n : ℕ} {Marked : ℕ → Type 0} {i base omitted : ℕ} → AreAlike p q n → i < n → IsBase full p Marked i base omitted → IsBase full q Marked i base omitted
-base_alike g l h = elim h [
-  | inl f ↦ (let z = f.last.before in inl (record { from = f.from; last = last_declared_alike g l f.last; rest = long_alike g (omega arith) f.rest; none = f.none }))
-  | inr s ↦
-      let z = s.waits.last.before in
-      let y = s.waits.split.run.some in
-      inr (record {
-        from = s.from;
-        to = s.to;
-        waits = waiting_alike g l s.waits;
-        earlier = s.earlier;
-        before = last_declared_alike g (omega arith) s.before;
-        omits = s.omits;
-      })
-]
+base_alike {Marked = Marked} g l h = base_marked (one_marking Marked g) l h
 
 pub last_end_alike : {least : ℕ} {p q : List Activity} {n i to : ℕ} → AreAlike p q n → i < n → IsLastEnd least p i to → IsLastEnd least q i to
 last_end_alike g l h = let z = h.before in record {
