@@ -136,8 +136,8 @@ module _ (t l c : Bytes) (budget : ℕ) (r : ReadSide) (w : WriteSide) where
 
   -- what an answer of `plan` leaves
   plan_leaves : (status : Status) (text : Bytes) → PlanAnswers t l c budget r w status text → PlanLeaves t l c r w
-  plan_leaves Done text h = (inl h.lawful.read.unfailed, inr (inl record { tour = h.tour; log = h.log; lawful = h.lawful; bytes = h.bytes; cert = h.proof.cert; acceptable = h.proof.acceptable; put = h.put }))
-  plan_leaves Infeasible text h = (inl h.lawful.read.unfailed, inr (inl record { tour = h.tour; log = h.log; lawful = h.lawful; bytes = h.bytes; cert = h.proof.cert; acceptable = h.proof.acceptable; put = h.put }))
+  plan_leaves Done text h = (inl h.lawful.read.unfailed, inr (inl record { tour = h.tour; log = h.log; lawful = h.lawful; bytes = h.bytes; proof = (h.proof.cert, h.proof.acceptable); put = h.put }))
+  plan_leaves Infeasible text h = (inl h.lawful.read.unfailed, inr (inl record { tour = h.tour; log = h.log; lawful = h.lawful; bytes = h.bytes; proof = (h.proof.cert, h.proof.acceptable); put = h.put }))
   plan_leaves WriteFault text h = (inl h.lawful.read.unfailed, inr (inr h.unput))
   plan_leaves Spent text h = (inl h.1.lawful.read.unfailed, inl h.0)
   plan_leaves Refused text h = (lawful_leaves t l r Refused text h.1, inl h.0)

@@ -18,10 +18,11 @@ use Rattle.cert_text.specs.declared.limits.TheConstants.{CERT_LIMIT}
 use Rattle.tour_plan.specs.Planned.{IsLawfulLog, HasAsMany}
 use Rattle.driver_cli.specs.declared.answer.Status.{Status}
 use Rattle.driver_cli.specs.declared.answer.Status.TheVariants.{Done, Refused, Infeasible, LogUnlawful, Spent, ReadFault, WriteFault, Memory, Rejected}
+use Rattle.driver_cli.specs.Answers.{IsAccepted}
 use Rattle.driver_cli.specs.Given.{BeginsWith, GivesTour, GivesLog}
 use Rattle.driver_cli.specs.Inputs.{AreGiven}
 use Rattle.driver_cli.specs.Sides.{ReadSide}
-use Rattle.driver_cli.specs.Exact.{HasTour, HasLog, HasLawfulLog, HasCert, IsAccepted, IsOr, IsOrMemory, FilesExact, InputsExact, AuditExact, AuditComplete, GraphExact, GraphComplete, CheckExact, CheckComplete, PlanExact, PlanComplete}
+use Rattle.driver_cli.specs.Exact.{HasTour, HasLog, HasLawfulLog, HasCert, IsOr, IsOrMemory, FilesExact, InputsExact, AuditExact, AuditComplete, GraphExact, GraphComplete, CheckExact, CheckComplete, PlanExact, PlanComplete}
 use Rattle.driver_cli.proofs.Stages.{IsFault, Stage, Judged, GraphBehind, AuditBehind, CheckBehind, PlanBehind}
 
 -- ---- what two readings of the same files have in common
@@ -58,8 +59,9 @@ same_tour known files t a b told h given =
 
 same_log : (known : Option Files) (files : Files) (t l : Bytes) (tour : Tour) (a b : Result (List Activity) LogFault) → known ≡ Some files → HasLog files t l tour a → GivesLog known l tour b → a ≡ b
 same_log known files t l tour a b told h given =
-    let e = same_start known files l (LOG_LIMIT + 1) h.bytes given.bytes told h.start given.start in
-    one_log given.bytes tour.params tour.start a b (subst (λ bs. ReadsLog bs tour.params tour.start a) e h.reads) given.reads
+    let log = h.log_there in
+    let e = same_start known files l (LOG_LIMIT + 1) log.bytes given.bytes told log.start given.start in
+    one_log given.bytes tour.params tour.start a b (subst (λ bs. ReadsLog bs tour.params tour.start a) e log.reads) given.reads
 
 -- another tour that is given is the same, and what is given after it is given after this one
 log_of : (known : Option Files) (files : Files) (t l : Bytes) (tour tour' : Tour) (b : Result (List Activity) LogFault) → known ≡ Some files → HasTour files t (Ok tour) → GivesTour known t (Ok tour') → GivesLog known l tour' b → GivesLog known l tour b
@@ -199,7 +201,7 @@ module _ (r : ReadSide) (files : Files) (told : r.files ≡ Some files) (t l c :
   cert_missing tour log missing (inr b) = absurd (not_there r.files files c (CERT_LIMIT + 1) b.bytes told missing b.given)
 
   same_cert : (tour : Tour) (log : List Activity) (bytes : Bytes) → HasCert files t l c tour log bytes → (b : CheckBehind c r tour log status) → bytes ≡ b.bytes
-  same_cert tour log bytes h b = same_start r.files files c (CERT_LIMIT + 1) bytes b.bytes told h.start b.given
+  same_cert tour log bytes h b = same_start r.files files c (CERT_LIMIT + 1) bytes b.bytes told h.cert_there b.given
 
   told_accepted : (tour : Tour) (log : List Activity) (bytes : Bytes) → HasCert files t l c tour log bytes → IsAccepted tour log bytes → (b : CheckBehind c r tour log status) →
       ((Done ≡ status) × IsAccepted tour log b.bytes) ⊎ ((Rejected ≡ status) × (IsAccepted tour log b.bytes → ⊥)) → IsOr Done status

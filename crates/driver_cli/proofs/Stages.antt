@@ -15,8 +15,7 @@ use Rattle.driver_cli.specs.declared.answer.Status.TheVariants.{Done, Usage, Ref
 use Rattle.driver_cli.specs.Given.{GivesTour, GivesLog, GivesCert}
 use Rattle.driver_cli.specs.Inputs.{AreGiven, InputAnswers, InputsLeave, LawfulAnswers}
 use Rattle.driver_cli.specs.Sides.{ReadSide, WriteSide, SinkSide}
-use Rattle.driver_cli.specs.Answers.{AuditAnswers, GraphAnswers, IsTooLong, IsInvalid, BytesAnswers, CheckAnswers, CheckLeaves, PlanAnswers, PlanLeaves}
-use Rattle.driver_cli.specs.Exact.{IsAccepted}
+use Rattle.driver_cli.specs.Answers.{AuditAnswers, GraphAnswers, IsTooLong, IsInvalid, BytesAnswers, CheckAnswers, CheckLeaves, IsAccepted, PlanAnswers, PlanLeaves}
 use Rattle.driver_cli.specs.Ends.{Told}
 use Rattle.driver_cli.proofs.Prefixes.{lawful_before}
 
@@ -121,12 +120,12 @@ audit_stage t l r s Spent e = absurd e.1
 audit_stage t l r s Rejected e = absurd e.1
 
 accepted : (tour : Tour) (log : List Activity) (bytes text : Bytes) → BytesAnswers tour log bytes Done text → IsAccepted tour log bytes
-accepted tour log bytes text (short, inl h) = record { short = short; cert = h.cert; is = h.is }
-accepted tour log bytes text (short, inr h) = record { short = short; cert = h.cert; is = h.is }
+accepted tour log bytes text (short, inl h) = (h.cert, record { is = h.is; short = short })
+accepted tour log bytes text (short, inr h) = (h.cert, record { is = h.is; short = short })
 
 not_accepted : (tour : Tour) (log : List Activity) (bytes text : Bytes) → IsTooLong bytes text ⊎ IsInvalid tour log bytes text → IsAccepted tour log bytes → ⊥
-not_accepted tour log bytes text (inl h) a = let long = h.long in let short = a.short in absurd (omega arith)
-not_accepted tour log bytes text (inr h) a = h.none a.cert a.is
+not_accepted tour log bytes text (inl h) a = let long = h.long in let short = a.1.short in absurd (omega arith)
+not_accepted tour log bytes text (inr h) a = h.none a.0 a.1.is
 
 pub check_stage : (t l c : Bytes) (r : ReadSide) (s : SinkSide) (status : Status) → Told (CheckAnswers t l c r) (CheckLeaves t l c r) s status → Stage t l r (Judged (CheckBehind c r)) status
 check_stage t l c r s Done e =

@@ -125,10 +125,14 @@ CheckLeaves tour_name log_name cert_name r = InputsLeave tour_name log_name r �
 
 -- ---- `plan`
 
--- The bytes are a certificate that `check` accepts, of this kind.
+-- The bytes are this certificate, which is valid and no longer than one may be: `check` accepts it.
 pub record IsAcceptable (tour : Tour) (log : List Activity) (bytes : Bytes) (cert : Cert) : Type 0 where
   pub is : IsCertificate tour log bytes cert
   pub short : length bytes ≤ CERT_LIMIT
+
+-- The bytes are some certificate that `check` accepts.
+abbrev pub IsAccepted : Tour → List Activity → Bytes → Type 0
+IsAccepted tour log bytes = (cert : Cert) × IsAcceptable tour log bytes cert
 
 -- the schedule of a certificate, with its marks
 abbrev pub schedule_of : Cert → Schedule
@@ -151,23 +155,22 @@ pub record IsInfeasibleProof (tour : Tour) (log : List Activity) (bytes text : B
   pub infeasible : IsInfeasible tour log
   pub told : text ≡ infeasible_text
 
--- Done: the log is lawful, the certificate's file holds a proof of a shortest schedule, and the text reports that schedule.
-pub record PlanDone (tour_name log_name cert_name : Bytes) (r : ReadSide) (w : WriteSide) (text : Bytes) : Type 0 where
+-- The log is lawful, and the certificate's file holds bytes of which this is so.
+pub record HasProof (tour_name log_name cert_name : Bytes) (r : ReadSide) (w : WriteSide) (proves : Tour → List Activity → Bytes → Type 0) : Type 0 where
   pub tour : Tour
   pub log : List Activity
   pub lawful : AreLawful tour_name log_name r tour log
   pub bytes : Bytes
-  pub proof : IsShortestProof tour log bytes text
+  pub proof : proves tour log bytes
   pub put : HasPut w cert_name bytes
 
+-- Done: the log is lawful, the certificate's file holds a proof of a shortest schedule, and the text reports that schedule.
+abbrev pub PlanDone : Bytes → Bytes → Bytes → ReadSide → WriteSide → Bytes → Type 0
+PlanDone tour_name log_name cert_name r w text = HasProof tour_name log_name cert_name r w (λ tour log bytes. IsShortestProof tour log bytes text)
+
 -- Infeasible: the log is lawful, after it there is no solution, and the certificate's file holds a proof of that.
-pub record PlanInfeasible (tour_name log_name cert_name : Bytes) (r : ReadSide) (w : WriteSide) (text : Bytes) : Type 0 where
-  pub tour : Tour
-  pub log : List Activity
-  pub lawful : AreLawful tour_name log_name r tour log
-  pub bytes : Bytes
-  pub proof : IsInfeasibleProof tour log bytes text
-  pub put : HasPut w cert_name bytes
+abbrev pub PlanInfeasible : Bytes → Bytes → Bytes → ReadSide → WriteSide → Bytes → Type 0
+PlanInfeasible tour_name log_name cert_name r w text = HasProof tour_name log_name cert_name r w (λ tour log bytes. IsInfeasibleProof tour log bytes text)
 
 -- Spent: the log is lawful, and after it the search kept as many labels as the budget allows.
 pub record PlanSpent (tour_name log_name : Bytes) (budget : ℕ) (r : ReadSide) (text : Bytes) : Type 0 where
@@ -193,15 +196,9 @@ PlanAnswers tour_name log_name cert_name budget r w WriteFault text = PlanUnput 
 PlanAnswers tour_name log_name cert_name budget r w Spent text = IsKept w × PlanSpent tour_name log_name budget r text
 PlanAnswers tour_name log_name cert_name budget r w status text = IsKept w × LawfulAnswers tour_name log_name r status text
 
--- The certificate's file holds a certificate that `check` accepts.
-pub record CertIsPut (tour_name log_name cert_name : Bytes) (r : ReadSide) (w : WriteSide) : Type 0 where
-  pub tour : Tour
-  pub log : List Activity
-  pub lawful : AreLawful tour_name log_name r tour log
-  pub bytes : Bytes
-  pub cert : Cert
-  pub acceptable : IsAcceptable tour log bytes cert
-  pub put : HasPut w cert_name bytes
+-- The log is lawful, and the certificate's file holds a certificate that `check` accepts.
+abbrev pub CertIsPut : Bytes → Bytes → Bytes → ReadSide → WriteSide → Type 0
+CertIsPut tour_name log_name cert_name r w = HasProof tour_name log_name cert_name r w IsAccepted
 
 -- What `plan` leaves where memory runs out: no fetch failed, or that of one of its files did; and all files are as they were, or such a certificate is put, or its put failed.
 abbrev pub PlanLeaves : Bytes → Bytes → Bytes → ReadSide → WriteSide → Type 0

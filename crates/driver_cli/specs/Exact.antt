@@ -1,39 +1,30 @@
 -- Which answers may come where, and no other, over a desk that tells its files.
-use Rattle.std.specs.Prelude.{◌≡◌, ◌+◌, ◌≤◌, ℕ, List, length, [], ◌∷◌, None, Some, Ok, Err, Result}
+use Rattle.std.specs.Prelude.{◌≡◌, ℕ, List, [], ◌∷◌, None, Some, Ok, Err, Result}
 use Rattle.std.specs.FinMap.{get}
 use Rattle.duty_core.specs.declared.activity.Activity.{Activity}
 use Rattle.rule_core.specs.Reach.{IsOneOf}
-use Rattle.outside.specs.Outside.{Bytes, Files, Rose, start_of}
+use Rattle.outside.specs.Outside.{Bytes, Files, Rose}
 use Rattle.tour_model.specs.declared.tour.Tour.{Tour}
 use Rattle.tour_model.specs.Schedule.{IsSolution, IsInfeasible}
 use Rattle.tour_reader.specs.declared.fault.TourFault.{TourFault}
-use Rattle.tour_reader.specs.declared.form.TheConstants.{TOUR_LIMIT}
-use Rattle.tour_reader.specs.Tour.{tour_of}
 use Rattle.duty_log.specs.declared.fault.LogFault.{LogFault}
-use Rattle.duty_log.specs.declared.read.TheConstants.{LOG_LIMIT}
-use Rattle.duty_log.specs.Log.{ReadsLog}
-use Rattle.cert_text.specs.declared.cert.Cert.{Cert}
-use Rattle.cert_text.specs.declared.limits.TheConstants.{CERT_LIMIT}
-use Rattle.cert_checker.specs.Checked.{IsCertificate}
 use Rattle.tour_plan.specs.Planned.{IsLawfulLog, HasAsMany}
 use Rattle.driver_cli.specs.declared.answer.Status.{Status}
 use Rattle.driver_cli.specs.declared.answer.Status.TheVariants.{Done, Refused, Infeasible, LogUnlawful, Spent, ReadFault, WriteFault, Memory, Rejected}
+use Rattle.driver_cli.specs.Answers.{IsAccepted}
+use Rattle.driver_cli.specs.Given.{GivesTour, GivesLog, GivesCert}
 use Rattle.driver_cli.specs.Sides.{ReadSide, WriteSide, SinkSide}
 
 -- ---- what the files hold
 
 -- The tour's file is there, and its first 1,000,001 bytes read as this.
-pub record HasTour (files : Files) (tour_name : Bytes) (answer : Result Tour TourFault) : Type 0 where
-  pub bytes : Bytes
-  pub start : start_of files tour_name (TOUR_LIMIT + 1) ≡ Some bytes
-  pub reads : tour_of bytes ≡ answer
+abbrev pub HasTour : Files → Bytes → Result Tour TourFault → Type 0
+HasTour files tour_name answer = GivesTour (Some files) tour_name answer
 
 -- It reads as this tour, the log's file is there too, and its first 4,000,001 bytes read as this.
 pub record HasLog (files : Files) (tour_name log_name : Bytes) (tour : Tour) (answer : Result (List Activity) LogFault) : Type 0 where
   pub tour_there : HasTour files tour_name (Ok tour)
-  pub bytes : Bytes
-  pub start : start_of files log_name (LOG_LIMIT + 1) ≡ Some bytes
-  pub reads : ReadsLog bytes tour.params tour.start answer
+  pub log_there : GivesLog (Some files) log_name tour answer
 
 -- Both are there, and the log is lawful.
 pub record HasLawfulLog (files : Files) (tour_name log_name : Bytes) (tour : Tour) (log : List Activity) : Type 0 where
@@ -43,13 +34,7 @@ pub record HasLawfulLog (files : Files) (tour_name log_name : Bytes) (tour : Tou
 -- The certificate's file is there too, and these are its first 1,010,000,001 bytes.
 pub record HasCert (files : Files) (tour_name log_name cert_name : Bytes) (tour : Tour) (log : List Activity) (bytes : Bytes) : Type 0 where
   pub there : HasLawfulLog files tour_name log_name tour log
-  pub start : start_of files cert_name (CERT_LIMIT + 1) ≡ Some bytes
-
--- The bytes are a certificate that is accepted.
-pub record IsAccepted (tour : Tour) (log : List Activity) (bytes : Bytes) : Type 0 where
-  pub short : length bytes ≤ CERT_LIMIT
-  pub cert : Cert
-  pub is : IsCertificate tour log bytes cert
+  pub cert_there : GivesCert (Some files) cert_name bytes
 
 -- No count of failed fetches, puts or sends rose.
 pub record IsUnharmed (r : ReadSide) (w : WriteSide) (s : SinkSide) : Type 0 where
