@@ -1,6 +1,6 @@
 //! Certificates that are put, changed and checked, and what fails on the way.
 use crate::calls::{Given, MONDAY, PLAN, RESTED, THURSDAY, call, stop, tour_of};
-use crate::worked_tours::{US, US_BERTH, checked, fixed_stops, planned};
+use crate::worked_tours::{Setting, US, US_BERTH, checked, fixed_stops, planned};
 use driver_cli::Status;
 use duty_core::NoMemory;
 use std::alloc::Global;
@@ -47,24 +47,26 @@ fn twice_labelled(alloc: Global, cert: &[u8]) -> Result<Vec<u8>, NoMemory> {
 #[test]
 fn rejects_changed_certificates(rt: HostRuntime) -> Result<(), Fail> {
     let alloc = rt.alloc();
+    let berth = Setting::new(US_BERTH, RESTED);
     let stops = fixed_stops(alloc, 390)?;
-    let plan = planned(alloc, US_BERTH, stops.as_str(), RESTED)?;
+    let plan = planned(alloc, berth, stops.as_str())?;
     assert_eq!(rt; plan.status, Status::Done);
     let cert = plan.cert.unwrap_or(Vec::new(alloc));
     let (cut, count) = first_lines(alloc, &cert)?;
-    let told = checked(alloc, US_BERTH, stops.as_str(), RESTED, &cut)?;
+    let told = checked(alloc, berth, stops.as_str(), &cut)?;
     assert_eq!(rt; told.status, Status::Rejected);
     let next = count.saturating_add(1);
     let grammar = format!(in alloc; "rejected line {next}: GRAMMAR\n")?;
     assert_eq!(rt; told.sent.as_slice(), grammar.as_bytes());
     let twice = twice_labelled(alloc, &cert)?;
-    let told = checked(alloc, US_BERTH, stops.as_str(), RESTED, &twice)?;
+    let told = checked(alloc, berth, stops.as_str(), &twice)?;
     assert_eq!(rt; told.status, Status::Rejected);
     let repeated = format!(in alloc; "rejected line {next}: REPEATED\n")?;
     assert_eq!(rt; told.sent.as_slice(), repeated.as_bytes());
     // A schedule that rests in the berth serves no tour of a truck without one. The runs are counted
     // in the fourth line.
-    let told = checked(alloc, US, stops.as_str(), RESTED, &cert)?;
+    let bare = Setting::new(US, RESTED);
+    let told = checked(alloc, bare, stops.as_str(), &cert)?;
     assert_eq!(rt; told.status, Status::Rejected);
     assert_eq!(rt;
         told.sent.as_slice(),

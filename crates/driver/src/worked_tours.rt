@@ -31,31 +31,38 @@ const CANADA_BERTH: &str =
 /// A tour of Australia on quarter hours from Monday 06:00.
 const AUSTRALIA: &str = r#""book":"hvnl","grid":15,"start":"2026-03-02T06:00""#;
 
-/// What planning the tour of this form after the log does.
-pub(crate) fn planned(
-    alloc: Global,
-    head: &str,
-    stops: &str,
-    log: &str,
-) -> Result<Outcome, NoMemory> {
-    let tour = tour_of(alloc, head, stops)?;
-    call(alloc, Given::new(&PLAN, tour.as_str(), log))
+/// The form of a tour, but for its stops, and the log before it.
+#[derive(Clone, Copy)]
+pub(crate) struct Setting<'a> {
+    form: &'a str,
+    log: &'a str,
 }
 
-/// What checking a certificate of that tour does.
+impl<'a> Setting<'a> {
+    pub(crate) fn new(form: &'a str, log: &'a str) -> Setting<'a> {
+        Setting { form, log }
+    }
+}
+
+/// What planning these stops does.
+pub(crate) fn planned(alloc: Global, setting: Setting, stops: &str) -> Result<Outcome, NoMemory> {
+    let tour = tour_of(alloc, setting.form, stops)?;
+    call(alloc, Given::new(&PLAN, tour.as_str(), setting.log))
+}
+
+/// What checking a certificate of them does.
 pub(crate) fn checked(
     alloc: Global,
-    head: &str,
+    setting: Setting,
     stops: &str,
-    log: &str,
     cert: &[u8],
 ) -> Result<Outcome, NoMemory> {
-    let tour = tour_of(alloc, head, stops)?;
+    let tour = tour_of(alloc, setting.form, stops)?;
     call(
         alloc,
         Given {
             cert: Some(cert),
-            ..Given::new(&CHECK, tour.as_str(), log)
+            ..Given::new(&CHECK, tour.as_str(), setting.log)
         },
     )
 }
@@ -82,20 +89,19 @@ fn tells(
 fn taken(
     rt: &impl Abort,
     alloc: Global,
-    head: &str,
+    setting: Setting,
     stops: &str,
-    log: &str,
     duration: &str,
     departs: (&str, &str),
 ) -> Result<Vec<u8>, Fail> {
-    let plan = planned(alloc, head, stops, log)?;
+    let plan = planned(alloc, setting, stops)?;
     assert_eq!(rt; plan.status, Status::Done, "where it takes {duration}");
     assert!(rt;
         tells(alloc, &plan.sent, duration, departs)?,
         "where it takes {duration}"
     );
     let cert = plan.cert.unwrap_or(Vec::new(alloc));
-    let check = checked(alloc, head, stops, log, &cert)?;
+    let check = checked(alloc, setting, stops, &cert)?;
     assert_eq!(rt; check.status, Status::Done, "where it takes {duration}");
     let accepted = format!(in alloc; "accepted shortest {duration}\n")?;
     assert_eq!(rt; check.sent.as_slice(), accepted.as_bytes());
@@ -106,29 +112,22 @@ fn taken(
 fn takes(
     rt: &impl Abort,
     alloc: Global,
-    head: &str,
+    setting: Setting,
     stops: &str,
-    log: &str,
     duration: &str,
     departs: (&str, &str),
 ) -> Result<(), Fail> {
-    let _ = taken(rt, alloc, head, stops, log, duration, departs)?;
+    let _ = taken(rt, alloc, setting, stops, duration, departs)?;
     Ok(())
 }
 
 /// Checks that there is no schedule, and that the certificate of it is accepted.
-fn has_none(
-    rt: &impl Abort,
-    alloc: Global,
-    head: &str,
-    stops: &str,
-    log: &str,
-) -> Result<(), Fail> {
-    let plan = planned(alloc, head, stops, log)?;
+fn has_none(rt: &impl Abort, alloc: Global, setting: Setting, stops: &str) -> Result<(), Fail> {
+    let plan = planned(alloc, setting, stops)?;
     assert_eq!(rt; plan.status, Status::Infeasible);
     assert_eq!(rt; plan.sent.as_slice(), "infeasible\n".as_bytes());
     let cert = plan.cert.unwrap_or(Vec::new(alloc));
-    let check = checked(alloc, head, stops, log, &cert)?;
+    let check = checked(alloc, setting, stops, &cert)?;
     assert_eq!(rt; check.status, Status::Done);
     assert_eq!(rt; check.sent.as_slice(), "accepted infeasible\n".as_bytes());
     Ok(())
@@ -137,25 +136,27 @@ fn has_none(
 #[test]
 fn drives_within_a_shift_and_its_break(rt: HostRuntime) -> Result<(), Fail> {
     let alloc = rt.alloc();
+    let us = Setting::new(US, RESTED);
     let wide = (MONDAY, THURSDAY);
     let plain = stop(alloc, 240, 60, MONDAY, THURSDAY)?;
-    takes(&rt, alloc, US, plain.as_str(), RESTED, "5:00", wide)?;
+    takes(&rt, alloc, us, plain.as_str(), "5:00", wide)?;
     let eleven = stop(alloc, 660, 30, MONDAY, THURSDAY)?;
-    takes(&rt, alloc, US, eleven.as_str(), RESTED, "12:00", wide)?;
+    takes(&rt, alloc, us, eleven.as_str(), "12:00", wide)?;
     let eight = stop(alloc, 480, 30, MONDAY, THURSDAY)?;
     let three = named(alloc, "B", (180, 30), MONDAY, THURSDAY)?;
     let served = format!(in alloc; "{eight},{three}")?;
-    takes(&rt, alloc, US, served.as_str(), RESTED, "12:00", wide)
+    takes(&rt, alloc, us, served.as_str(), "12:00", wide)
 }
 
 #[test]
 fn rests_overnight_where_it_must(rt: HostRuntime) -> Result<(), Fail> {
     let alloc = rt.alloc();
+    let us = Setting::new(US, RESTED);
     let wide = (MONDAY, THURSDAY);
     let long = stop(alloc, 690, 30, MONDAY, THURSDAY)?;
-    takes(&rt, alloc, US, long.as_str(), RESTED, "22:00", wide)?;
+    takes(&rt, alloc, us, long.as_str(), "22:00", wide)?;
     let early = stop(alloc, 690, 30, MONDAY, "2026-03-03T00:00")?;
-    has_none(&rt, alloc, US, early.as_str(), RESTED)
+    has_none(&rt, alloc, us, early.as_str())
 }
 
 /// Three stops, two of which fix the time.
@@ -170,18 +171,12 @@ pub(crate) fn fixed_stops(alloc: Global, last_drive: u32) -> Result<String, NoMe
 #[test]
 fn splits_its_rest_in_the_berth(rt: HostRuntime) -> Result<(), Fail> {
     let alloc = rt.alloc();
+    let berth = Setting::new(US_BERTH, RESTED);
+    let us = Setting::new(US, RESTED);
     let at_once = (MONDAY, MONDAY);
     let stops = fixed_stops(alloc, 390)?;
-    takes(&rt, alloc, US, stops.as_str(), RESTED, "26:30", at_once)?;
-    takes(
-        &rt,
-        alloc,
-        US_BERTH,
-        stops.as_str(),
-        RESTED,
-        "23:30",
-        at_once,
-    )
+    takes(&rt, alloc, us, stops.as_str(), "26:30", at_once)?;
+    takes(&rt, alloc, berth, stops.as_str(), "23:30", at_once)
 }
 
 /// Ten hours of service on each day of a week, and rest between and up to the start.
@@ -205,14 +200,16 @@ const FULL_WEEK: &str = "from,to,status
 #[test]
 fn waits_until_a_day_leaves_the_week(rt: HostRuntime) -> Result<(), Fail> {
     let alloc = rt.alloc();
-    let head =
-        r#""book":"us","grid":30,"start":"2026-03-09T06:00","berth":false,"days":8,"day_start":"00:00""#;
+    let week = Setting::new(
+        r#""book":"us","grid":30,"start":"2026-03-09T06:00","berth":false,"days":8,"day_start":"00:00""#,
+        FULL_WEEK,
+    );
     let start = "2026-03-09T06:00";
     let wide = stop(alloc, 120, 30, start, "2026-03-11T06:00")?;
     let departs = ("2026-03-10T00:00", "2026-03-11T06:00");
-    takes(&rt, alloc, head, wide.as_str(), FULL_WEEK, "2:30", departs)?;
+    takes(&rt, alloc, week, wide.as_str(), "2:30", departs)?;
     let early = stop(alloc, 120, 30, start, "2026-03-09T20:00")?;
-    has_none(&rt, alloc, head, early.as_str(), FULL_WEEK)
+    has_none(&rt, alloc, week, early.as_str())
 }
 
 /// Fourteen hours of service on each of five days, and rest between and up to the start.
@@ -232,23 +229,17 @@ const FIVE_LONG_DAYS: &str = "from,to,status
 #[test]
 fn begins_the_week_anew_after_a_restart(rt: HostRuntime) -> Result<(), Fail> {
     let alloc = rt.alloc();
-    let head =
-        r#""book":"us","grid":30,"start":"2026-03-08T06:00","berth":false,"days":8,"day_start":"00:00""#;
+    let week = Setting::new(
+        r#""book":"us","grid":30,"start":"2026-03-08T06:00","berth":false,"days":8,"day_start":"00:00""#,
+        FIVE_LONG_DAYS,
+    );
     let start = "2026-03-08T06:00";
     let restarted = "2026-03-09T06:00";
     let late = stop(alloc, 120, 30, start, "2026-03-09T08:00")?;
     let departs = (restarted, restarted);
-    takes(
-        &rt,
-        alloc,
-        head,
-        late.as_str(),
-        FIVE_LONG_DAYS,
-        "2:30",
-        departs,
-    )?;
+    takes(&rt, alloc, week, late.as_str(), "2:30", departs)?;
     let early = stop(alloc, 120, 30, start, "2026-03-09T07:30")?;
-    has_none(&rt, alloc, head, early.as_str(), FIVE_LONG_DAYS)
+    has_none(&rt, alloc, week, early.as_str())
 }
 
 /// Nine hours of service on each of five days, and rest between and up to the start.
@@ -268,8 +259,10 @@ pub(crate) const WORKING_WEEK: &str = "from,to,status
 #[test]
 fn plans_two_days_of_four_stops(rt: HostRuntime) -> Result<(), Fail> {
     let alloc = rt.alloc();
-    let head =
-        r#""book":"us","grid":15,"start":"2026-03-02T06:00","berth":true,"days":8,"day_start":"00:00""#;
+    let week = Setting::new(
+        r#""book":"us","grid":15,"start":"2026-03-02T06:00","berth":true,"days":8,"day_start":"00:00""#,
+        WORKING_WEEK,
+    );
     let first = stop(alloc, 90, 45, "2026-03-02T07:30", "2026-03-02T08:00")?;
     let second = named(
         alloc,
@@ -294,33 +287,27 @@ fn plans_two_days_of_four_stops(rt: HostRuntime) -> Result<(), Fail> {
     )?;
     let stops = format!(in alloc; "{first},{second},{third},{fourth}")?;
     let departs = (MONDAY, "2026-03-02T06:30");
-    takes(
-        &rt,
-        alloc,
-        head,
-        stops.as_str(),
-        WORKING_WEEK,
-        "25:45",
-        departs,
-    )
+    takes(&rt, alloc, week, stops.as_str(), "25:45", departs)
 }
 
 #[test]
 fn plans_up_to_the_last_minute_of_the_horizon(rt: HostRuntime) -> Result<(), Fail> {
     let alloc = rt.alloc();
+    let us = Setting::new(US, RESTED);
     let last = "2026-03-16T05:30";
     let far = stop(alloc, 240, 30, MONDAY, last)?;
-    takes(&rt, alloc, US, far.as_str(), RESTED, "4:30", (MONDAY, last))
+    takes(&rt, alloc, us, far.as_str(), "4:30", (MONDAY, last))
 }
 
 #[test]
 fn rounds_times_to_its_grid(rt: HostRuntime) -> Result<(), Fail> {
     let alloc = rt.alloc();
+    let us = Setting::new(US, RESTED);
     let rounded = stop(alloc, 31, 1, "2026-03-02T09:10", THURSDAY)?;
     let departs = ("2026-03-02T08:30", THURSDAY);
-    takes(&rt, alloc, US, rounded.as_str(), RESTED, "1:30", departs)?;
+    takes(&rt, alloc, us, rounded.as_str(), "1:30", departs)?;
     let empty = stop(alloc, 0, 30, "2026-03-02T06:10", "2026-03-02T06:20")?;
-    has_none(&rt, alloc, US, empty.as_str(), RESTED)
+    has_none(&rt, alloc, us, empty.as_str())
 }
 
 /// The number that two digits spell.
@@ -359,27 +346,12 @@ fn driven_on(sent: &[u8], day: u32) -> u32 {
 #[test]
 fn plans_a_canadian_shift_and_its_rest(rt: HostRuntime) -> Result<(), Fail> {
     let alloc = rt.alloc();
+    let defer = Setting::new(CANADA_DEFER, RESTED);
     let wide = (MONDAY, THURSDAY);
     let shift = stop(alloc, 780, 30, MONDAY, THURSDAY)?;
-    takes(
-        &rt,
-        alloc,
-        CANADA_DEFER,
-        shift.as_str(),
-        RESTED,
-        "13:30",
-        wide,
-    )?;
+    takes(&rt, alloc, defer, shift.as_str(), "13:30", wide)?;
     let longer = stop(alloc, 840, 30, MONDAY, THURSDAY)?;
-    let report = taken(
-        &rt,
-        alloc,
-        CANADA_DEFER,
-        longer.as_str(),
-        RESTED,
-        "22:30",
-        wide,
-    )?;
+    let report = taken(&rt, alloc, defer, longer.as_str(), "22:30", wide)?;
     assert_eq!(rt; driven_on(&report, 2), 780);
     assert_eq!(rt; driven_on(&report, 3), 60);
     Ok(())
@@ -391,74 +363,41 @@ fn defers_rest_only_where_it_may(rt: HostRuntime) -> Result<(), Fail> {
     let midnight = "2026-03-02T00:00";
     let one = "2026-03-02T13:00";
     let stop = stop(alloc, 780, 180, one, one)?;
-    let defer =
-        r#""book":"canada","grid":30,"start":"2026-03-02T00:00","berth":false,"rest":"defer","cycle":1,"day_start":"00:00""#;
-    let split =
-        r#""book":"canada","grid":30,"start":"2026-03-02T00:00","berth":false,"rest":"split","cycle":1,"day_start":"00:00""#;
+    let defer = Setting::new(
+        r#""book":"canada","grid":30,"start":"2026-03-02T00:00","berth":false,"rest":"defer","cycle":1,"day_start":"00:00""#,
+        RESTED,
+    );
+    let split = Setting::new(
+        r#""book":"canada","grid":30,"start":"2026-03-02T00:00","berth":false,"rest":"split","cycle":1,"day_start":"00:00""#,
+        RESTED,
+    );
     let departs = (midnight, midnight);
-    takes(&rt, alloc, defer, stop.as_str(), RESTED, "16:00", departs)?;
-    has_none(&rt, alloc, split, stop.as_str(), RESTED)
+    takes(&rt, alloc, defer, stop.as_str(), "16:00", departs)?;
+    has_none(&rt, alloc, split, stop.as_str())
 }
 
 #[test]
 fn splits_its_rest_in_a_canadian_berth(rt: HostRuntime) -> Result<(), Fail> {
     let alloc = rt.alloc();
+    let split = Setting::new(CANADA_SPLIT, RESTED);
+    let berth = Setting::new(CANADA_BERTH, RESTED);
     let at_once = (MONDAY, MONDAY);
     let stops = fixed_stops(alloc, 540)?;
-    takes(
-        &rt,
-        alloc,
-        CANADA_BERTH,
-        stops.as_str(),
-        RESTED,
-        "25:30",
-        at_once,
-    )?;
-    takes(
-        &rt,
-        alloc,
-        CANADA_SPLIT,
-        stops.as_str(),
-        RESTED,
-        "27:00",
-        at_once,
-    )
+    takes(&rt, alloc, berth, stops.as_str(), "25:30", at_once)?;
+    takes(&rt, alloc, split, stops.as_str(), "27:00", at_once)
 }
 
 #[test]
 fn rests_a_quarter_of_an_hour_in_australia(rt: HostRuntime) -> Result<(), Fail> {
     let alloc = rt.alloc();
+    let australia = Setting::new(AUSTRALIA, RESTED);
     let at_once = (MONDAY, MONDAY);
     let five = stop(alloc, 300, 15, MONDAY, "2026-03-02T11:00")?;
-    takes(
-        &rt,
-        alloc,
-        AUSTRALIA,
-        five.as_str(),
-        RESTED,
-        "5:15",
-        at_once,
-    )?;
+    takes(&rt, alloc, australia, five.as_str(), "5:15", at_once)?;
     let more = stop(alloc, 315, 15, MONDAY, "2026-03-02T11:30")?;
-    takes(
-        &rt,
-        alloc,
-        AUSTRALIA,
-        more.as_str(),
-        RESTED,
-        "5:45",
-        at_once,
-    )?;
+    takes(&rt, alloc, australia, more.as_str(), "5:45", at_once)?;
     let twelve = stop(alloc, 705, 15, MONDAY, "2026-03-02T18:45")?;
-    takes(
-        &rt,
-        alloc,
-        AUSTRALIA,
-        twelve.as_str(),
-        RESTED,
-        "13:00",
-        at_once,
-    )
+    takes(&rt, alloc, australia, twelve.as_str(), "13:00", at_once)
 }
 
 /// Twelve hours of work in thirteen, up to the evening.
@@ -473,12 +412,15 @@ const WORKED_DAY: &str = "from,to,status
 #[test]
 fn waits_for_the_end_of_an_australian_day(rt: HostRuntime) -> Result<(), Fail> {
     let alloc = rt.alloc();
-    let head = r#""book":"hvnl","grid":15,"start":"2026-03-02T19:00""#;
+    let day = Setting::new(
+        r#""book":"hvnl","grid":15,"start":"2026-03-02T19:00""#,
+        WORKED_DAY,
+    );
     let evening = "2026-03-02T19:00";
     let noon = "2026-03-03T12:00";
     let wide = stop(alloc, 0, 15, evening, noon)?;
     let departs = ("2026-03-03T06:00", noon);
-    takes(&rt, alloc, head, wide.as_str(), WORKED_DAY, "0:15", departs)?;
+    takes(&rt, alloc, day, wide.as_str(), "0:15", departs)?;
     let early = stop(alloc, 0, 15, evening, "2026-03-03T05:45")?;
-    has_none(&rt, alloc, head, early.as_str(), WORKED_DAY)
+    has_none(&rt, alloc, day, early.as_str())
 }
