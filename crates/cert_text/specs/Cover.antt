@@ -28,17 +28,19 @@ IsAtLeast (Some target) n = target ≤ n
 abbrev pub taken : {S : Type 0} → ℕ → Label S → ℕ
 taken step l = step - unwrap_or l.depart 0
 
--- A departed label cannot end within less than the target. Where there is no target, no label is such.
-pub record IsTooLong {S : Type 0} (problem : Problem S) (target : Option ℕ) (step : ℕ) (l : Label S) : Type 0 where
-  pub depart : ℕ
-  pub bound : ℕ
-  pub departed : l.depart ≡ Some depart
-  pub ends : problem.bound step l ≡ Some bound
-  pub long : IsAtLeast target (bound - depart)
+-- What departed then and ends there at the earliest need not be kept: it can end nowhere, or it has departed and takes so long.
+abbrev pub IsPrunedBy : (ℕ → Type 0) → Option ℕ → Option ℕ → Type 0
+IsPrunedBy long depart None = Unit {0}
+IsPrunedBy long None (Some bound) = ⊥
+IsPrunedBy long (Some depart) (Some bound) = long (bound - depart)
+
+-- It can end nowhere, or it has departed and cannot take less than the target.
+abbrev pub IsPrunedAt : Option ℕ → Option ℕ → Option ℕ → Type 0
+IsPrunedAt target depart bound = IsPrunedBy (IsAtLeast target) depart bound
 
 -- A label need not be listed: it cannot be finished, or it cannot beat the target.
 abbrev pub IsPruned : {S : Type 0} → Problem S → Option ℕ → ℕ → Label S → Type 0
-IsPruned problem target step l = (problem.bound step l ≡ None) ⊎ IsTooLong problem target step l
+IsPruned problem target step l = IsPrunedAt target l.depart (problem.bound step l)
 
 -- A label of this step: its state is one of the step, it has done no more than there is to do, and it has departed exactly where it has done something, and then before the step.
 pub record IsLabelAt {S : Type 0} (is_state : S → ℕ → Type 0) (goal step : ℕ) (l : Label S) : Type 0 where

@@ -11,6 +11,7 @@ mod layers;
 mod limits;
 mod marks;
 mod minute;
+mod pruned;
 mod read;
 mod runs;
 #[cfg(test)]
@@ -25,6 +26,7 @@ pub use grown::Grown;
 pub use laws::cover_lists_prove;
 pub use limits::{CERT_LIMIT, MOST_LABELS};
 pub use minute::minute_at;
+pub use pruned::is_pruned;
 pub use read::read_cert;
 pub use texts::{cert_texts_fit, certs_are_spelled_once};
 pub use tour_model::Label;

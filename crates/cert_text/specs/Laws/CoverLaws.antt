@@ -12,7 +12,7 @@ use Rattle.tour_model.specs.Way.{done_after}
 use Rattle.tour_model.specs.Schedule.{depart_from, duration}
 use Rattle.tour_model.specs.Layer.{layer_at}
 use Rattle.cert_text.specs.Problem.{Problem, departed, root_label, grow, successors_of, later, is_better}
-use Rattle.cert_text.specs.Cover.{IsAtLeast, IsPruned, IsLabelAt, IsCoverList}
+use Rattle.cert_text.specs.Cover.{IsAtLeast, IsPrunedBy, IsPruned, IsLabelAt, IsCoverList}
 use Rattle.cert_text.specs.Continuation.{IsAllowedFrom, departed_after, Continues, takes}
 use Rattle.cert_text.specs.Laws.ProblemLaws.{IsProblem}
 use Rattle.cert_text.specs.Laws.BetterLaws.{better_from, better_itself, later_itself, departed_idle, done_idle, grown_may, successor_by}
@@ -21,6 +21,17 @@ use Rattle.cert_text.specs.Laws.ContinuationLaws.{fewer, better_continues, label
 pub at_least_more : (target : Option ℕ) (n m : ℕ) → n ≤ m → IsAtLeast target n → IsAtLeast target m
 at_least_more None n m l h = h
 at_least_more (Some t) n m l h = let i : t ≤ n = h in omega arith
+
+-- what is pruned by one measure is pruned by each that holds wherever the first does
+pub pruned_more : (long more : ℕ → Type 0) (depart bound : Option ℕ) → ((n : ℕ) → long n → more n) → IsPrunedBy long depart bound → IsPrunedBy more depart bound
+pruned_more long more depart None above h = tt
+pruned_more long more None (Some bound) above h = h
+pruned_more long more (Some depart) (Some bound) above h = above (bound - depart) h
+
+-- what is pruned and ends somewhere has departed, and takes long
+pub pruned_departed : (long : ℕ → Type 0) (depart : Option ℕ) (bound : ℕ) → IsPrunedBy long depart (Some bound) → (d : ℕ) × (depart ≡ Some d) × long (bound - d)
+pruned_departed long None bound h = absurd h
+pruned_departed long (Some depart) bound h = (depart, refl, h)
 
 -- a departure stays
 pub departed_stays : (c k : ℕ) (ys : List Activity) → departed_after (Some c) k ys ≡ Some c
@@ -42,14 +53,13 @@ departed_from k (Berth ∷ ys) = departed_from (k + 1) ys
 -- where a label is pruned, nothing that continues it takes less than the target
 pub pruned_takes : {S : Type 0} (problem : Problem S) (is_state : S → ℕ → Type 0) (allowed : Activity → Bool) (target : Option ℕ) → IsProblem problem is_state allowed → (xs : List Activity) (k : ℕ) (l : Label S) →
     IsLabelAt is_state problem.goal k l → Continues problem allowed k l xs → IsPruned problem target k l → IsAtLeast target (takes k l xs)
-pruned_takes problem is_state allowed target laws xs k l here c (inl none) =
-    absurd (let q = bound_by problem is_state allowed laws xs k l here c in let z : None ≡ Some q.at = sym none ∙ q.is in cc)
-pruned_takes problem is_state allowed target laws xs k l here c (inr long) =
+pruned_takes problem is_state allowed target laws xs k l here c off =
     let q = bound_by problem is_state allowed laws xs k l here c in
-    let e : long.bound ≡ q.at = (let z : Some long.bound ≡ Some q.at = sym long.ends ∙ q.is in cc) in
-    let f : departed_after l.depart k xs ≡ Some long.depart = ap (λ o. departed_after o k xs) long.departed ∙ departed_stays long.depart k xs in
-    at_least_more target (long.bound - long.depart) (takes k l xs)
-    (fewer long.bound (k + length xs) (Some long.depart) (departed_after l.depart k xs) long.depart long.depart refl f (omega arith) (let by = q.by in omega arith)) long.long
+    let by = q.by in
+    let long = pruned_departed (IsAtLeast target) l.depart q.at (subst (IsPrunedBy (IsAtLeast target) l.depart) q.is off) in
+    let f : departed_after l.depart k xs ≡ Some long.0 = ap (λ o. departed_after o k xs) long.1 ∙ departed_stays long.0 k xs in
+    at_least_more target (q.at - long.0) (takes k l xs)
+    (fewer q.at (k + length xs) (Some long.0) (departed_after l.depart k xs) long.0 long.0 refl f (omega arith) (omega arith)) long.2
 
 -- A successor that is better than a label.
 pub record Answer {S : Type 0} (problem : Problem S) (k : ℕ) (l after : Label S) : Type 0 where
