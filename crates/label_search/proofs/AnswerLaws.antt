@@ -21,7 +21,7 @@ use Rattle.cert_text.specs.Cover.{IsCovered, IsAtLeast, taken, IsCoverList}
 use Rattle.cert_text.specs.Continuation.{takes}
 use Rattle.cert_text.specs.Laws.ProblemLaws.{IsProblem}
 use Rattle.cert_text.specs.Laws.BetterLaws.{better_from, better_on}
-use Rattle.cert_text.specs.Laws.CoverLaws.{departed_from, no_shorter}
+use Rattle.cert_text.specs.Laws.CoverLaws.{pruned_more, departed_from, no_shorter}
 use Rattle.cert_text.specs.Laws.ProblemOf.{problem_laws}
 use Rattle.cert_text.specs.Laws.SolutionLaws.{log_ends, log_state, solution_by, way_solves_with, no_solution, solution_shortest}
 use Rattle.label_state.specs.declared.kept.Kept.{Kept}
@@ -194,16 +194,8 @@ spent_answer {S} tour log m law t l roots h budget step first best layers least 
         started = λ two. covers_log tour log m law t l roots h (labels_of (layer_at layers 0))
             (λ k o. (let q = label_kept (layer_at layers 0) k o in subst (λ j. state_at tour m j.state 0) q.2 (s.labels 0 q.0 q.1).state)) (s.started (inl (omega arith)));
         answered = λ n less k o unfinished g p. elim (s.answered n (omega arith) (inl (omega arith)) k o g p) [
-          | inl off ↦ inl (elim off [
-            | inl none ↦ inl none
-            | inr long ↦ inr (record {
-              depart = long.depart;
-              bound = long.bound;
-              departed = long.departed;
-              ends = long.ends;
-              solved = limit_backed tour log m law t l roots h first best.limit best.place layers s.sound least s.found s.unfound (long.bound - long.depart) long.long;
-            })
-          ])
+          | inl off ↦ inl (pruned_more (IsAtLeast best.limit) (HasSolution tour log) g.label.depart (problem.bound (n + 1) g.label)
+              (limit_backed tour log m law t l roots h first best.limit best.place layers s.sound least s.found s.unfound) off)
           | inr c ↦ inr c
         ];
       };

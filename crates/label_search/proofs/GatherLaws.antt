@@ -1,10 +1,9 @@
 -- What gathering the labels for a layer comes to.
-use Rattle.std.proofs.Common.{◌≡◌, ℕ, ◌+◌, ◌-◌, ◌<◌, ◌≤◌, true, false, List, [], ◌∷◌, ◌++◌, length, take, get_or, refl, sym, ◌∙◌, ap, subst, arith, inl, inr, ◌⊎◌}
-use Rattle.std.specs.Prelude.{Option, None, Some, slice_get, nat_le, not}
+use Rattle.std.proofs.Common.{◌≡◌, ℕ, ◌+◌, ◌-◌, ◌<◌, ◌≤◌, true, List, [], ◌∷◌, ◌++◌, length, take, get_or, refl, sym, ◌∙◌, ap, subst, arith, inl, inr, ◌⊎◌}
+use Rattle.std.specs.Prelude.{Option, None, Some, slice_get}
 use Rattle.std.specs.List.Sorted.{IsPermutation, IsStrictlyIncreasing}
 use Rattle.std.proofs.lemmas.List.Sorted.{IsPermutation-sym}
 use Rattle.std.proofs.lemmas.Bool.{cases_lt}
-use Rattle.std.proofs.lemmas.Bool.Decides.{nat_tests}
 use Rattle.std.proofs.lemmas.List.{take_more, take_all}
 use Rattle.std.proofs.lemmas.Option.{slice_get_read}
 use Rattle.duty_core.specs.declared.activity.Activity.TheVariants.{Off}
@@ -18,41 +17,22 @@ use Rattle.label_state.specs.declared.kept.Kept.{Kept}
 use Rattle.label_state.specs.Layers.{labels_of}
 use Rattle.label_state.specs.Laws.LayerLaws.{one_of_labels, label_kept}
 use Rattle.cert_text.specs.Problem.{Problem, root_label, successors_of, later, HasBound}
-use Rattle.cert_text.specs.Cover.{IsAtLeast, IsTooLong, IsPruned, IsLabelAt}
+use Rattle.cert_text.specs.Cover.{IsPrunedAt, IsPruned, IsLabelAt}
 use Rattle.label_extend.specs.Growths.{AreGrownAt}
 use Rattle.label_search.specs.Sound.{IsFirst, parents_of, GrewFrom, AreOrdered}
-use Rattle.label_search.specs.Searching.{AreLabelsAt, AreSmall, IsGathered, Gathers, AreGathered, AreFirst, is_long, is_useful}
+use Rattle.label_search.specs.Searching.{AreLabelsAt, AreSmall, IsGathered, Gathers, AreGathered, AreFirst}
 use Rattle.label_search.proofs.Places.{one_of_permuted}
 use Rattle.label_search.proofs.TurnLaws.{one_of_parents, parent_kept, parents_push}
 
 -- ---- which labels are pruned
 
-has_bound_by : {S : Type 0} (problem : Problem S) (limit : Option ℕ) (step : ℕ) (l : Label S) (o : Option ℕ) → problem.bound step l ≡ o → is_useful limit l.depart o ≡ true → HasBound problem step l
-has_bound_by problem limit step l None e u = absurd (let z : false ≡ true = u in cc)
-has_bound_by problem limit step l (Some eta) e u = record { bound = eta; is = e }
+bound_by : {S : Type 0} (problem : Problem S) (limit : Option ℕ) (step : ℕ) (l : Label S) (o : Option ℕ) → problem.bound step l ≡ o → (IsPrunedAt limit l.depart o → ⊥) → HasBound problem step l
+bound_by problem limit step l None e kept = absurd (kept tt)
+bound_by problem limit step l (Some bound) e kept = record { bound = bound; is = e }
 
-pub useful_has_bound : {S : Type 0} (problem : Problem S) (limit : Option ℕ) (step : ℕ) (l : Label S) → is_useful limit l.depart (problem.bound step l) ≡ true → HasBound problem step l
-useful_has_bound problem limit step l u = has_bound_by problem limit step l (problem.bound step l) refl u
-
-beats_at : (limit : Option ℕ) (d e : ℕ) → is_useful limit (Some d) (Some e) ≡ true → IsAtLeast limit (e - d) → ⊥
-beats_at None d e u a = a
-beats_at (Some t) d e u a = let z : not (nat_le t (e - d)) ≡ true = u in let b : t ≤ e - d = a in absurd (let r : e - d < t = grind (arith, nat_tests) in omega arith)
-
-pub useful_beats : {S : Type 0} (problem : Problem S) (limit : Option ℕ) (step : ℕ) (l : Label S) → is_useful limit l.depart (problem.bound step l) ≡ true → IsTooLong problem limit step l → ⊥
-useful_beats problem limit step l u t =
-    beats_at limit t.depart t.bound (subst (λ o. is_useful limit o (Some t.bound) ≡ true) t.departed (subst (λ o. is_useful limit l.depart o ≡ true) t.ends u)) t.long
-
-too_long : {S : Type 0} (problem : Problem S) (limit : Option ℕ) (step : ℕ) (l : Label S) (eta : ℕ) (d : Option ℕ) → problem.bound step l ≡ Some eta → l.depart ≡ d → not (is_long limit d eta) ≡ false → IsTooLong problem limit step l
-too_long problem None step l eta d e f u = absurd (let z : true ≡ false = u in cc)
-too_long problem (Some b) step l eta None e f u = absurd (let z : true ≡ false = u in cc)
-too_long problem (Some b) step l eta (Some d) e f u = record { depart = d; bound = eta; departed = f; ends = e; long = (let z : not (nat_le b (eta - d)) ≡ false = u in let r : b ≤ eta - d = grind (arith, nat_tests) in r) }
-
-pruned_by : {S : Type 0} (problem : Problem S) (limit : Option ℕ) (step : ℕ) (l : Label S) (o : Option ℕ) → problem.bound step l ≡ o → is_useful limit l.depart o ≡ false → IsPruned problem limit step l
-pruned_by problem limit step l None e u = inl e
-pruned_by problem limit step l (Some eta) e u = inr (too_long problem limit step l eta l.depart e refl u)
-
-pub useless_pruned : {S : Type 0} (problem : Problem S) (limit : Option ℕ) (step : ℕ) (l : Label S) → is_useful limit l.depart (problem.bound step l) ≡ false → IsPruned problem limit step l
-useless_pruned problem limit step l u = pruned_by problem limit step l (problem.bound step l) refl u
+-- a label that is not pruned can still be finished
+unpruned_has_bound : {S : Type 0} (problem : Problem S) (limit : Option ℕ) (step : ℕ) (l : Label S) → (IsPruned problem limit step l → ⊥) → HasBound problem step l
+unpruned_has_bound problem limit step l kept = bound_by problem limit step l (problem.bound step l) refl kept
 
 -- ---- the successors of one label
 
@@ -66,7 +46,7 @@ gathers_pruned problem limit step place g ls off = record {
   all = λ m o. elim o [ inl e ↦ inl (subst (λ n. IsPruned problem limit step n.label) e off) | inr z ↦ absurd z ];
 }
 
-pub gathers_pushed : {S : Type 0} (problem : Problem S) (limit : Option ℕ) (step place : ℕ) (g : Grown S) (ls : List (Kept S)) → is_useful limit g.label.depart (problem.bound step g.label) ≡ true →
+pub gathers_pushed : {S : Type 0} (problem : Problem S) (limit : Option ℕ) (step place : ℕ) (g : Grown S) (ls : List (Kept S)) → (IsPruned problem limit step g.label → ⊥) →
     Gathers problem limit step place (g ∷ []) ls (ls ++ (record { label = g.label; parent = place; act = g.act; mark = g.mark }) ∷ [])
 gathers_pushed {S} problem limit step place g ls u =
     let k : Kept S = record { label = g.label; parent = place; act = g.act; mark = g.mark } in
@@ -74,7 +54,7 @@ gathers_pushed {S} problem limit step place g ls u =
       only = λ m o. elim (one_of-append ls (k ∷ []) m o) [
         | inl a ↦ inl a
         | inr q ↦ elim q [
-          | inl f ↦ inr (subst (λ j. IsGathered problem limit step place (g ∷ []) j) f (record { parent = refl; grown = inl refl; has_bound = useful_has_bound problem limit step g.label u; beats = useful_beats problem limit step g.label u }))
+          | inl f ↦ inr (subst (λ j. IsGathered problem limit step place (g ∷ []) j) f (record { parent = refl; grown = inl refl; unpruned = u }))
           | inr z ↦ absurd z
         ]
       ];
@@ -94,9 +74,9 @@ gathers_on problem limit step place gs hs a b c f g = record {
   only = λ k o. elim (g.only k o) [
     | inl i ↦ elim (f.only k i) [
       | inl j ↦ inl j
-      | inr j ↦ inr (record { parent = j.parent; grown = one_of-append_left gs hs (record { label = k.label; act = k.act; mark = k.mark }) j.grown; has_bound = j.has_bound; beats = j.beats })
+      | inr j ↦ inr (record { parent = j.parent; grown = one_of-append_left gs hs (record { label = k.label; act = k.act; mark = k.mark }) j.grown; unpruned = j.unpruned })
     ]
-    | inr j ↦ inr (record { parent = j.parent; grown = one_of-append_right gs hs (record { label = k.label; act = k.act; mark = k.mark }) j.grown; has_bound = j.has_bound; beats = j.beats })
+    | inr j ↦ inr (record { parent = j.parent; grown = one_of-append_right gs hs (record { label = k.label; act = k.act; mark = k.mark }) j.grown; unpruned = j.unpruned })
   ];
   keeps = λ k o. g.keeps k (f.keeps k o);
   all = λ m o. elim (one_of-append gs hs m o) [
@@ -110,11 +90,11 @@ gathers_on problem limit step place gs hs a b c f g = record {
 -- the labels gathered from some of a layer's labels
 pub record IsGathering {S : Type 0} (problem : Problem S) (limit : Option ℕ) (step : ℕ) (layer through list : List (Kept S)) : Type 0 where
   pub grew : (k : Kept S) → IsOneOf list k → GrewFrom problem step layer k
-  pub beats : (k : Kept S) → IsOneOf list k → IsTooLong problem limit (step + 1) k.label → ⊥
+  pub unpruned : (k : Kept S) → IsOneOf list k → IsPruned problem limit (step + 1) k.label → ⊥
   pub all : (k : Kept S) → IsOneOf through k → (g : Grown S) → IsOneOf (successors_of problem step k.label) g → IsPruned problem limit (step + 1) g.label ⊎ IsOneOf (labels_of list) g.label
 
 pub gathering_first : {S : Type 0} (problem : Problem S) (limit : Option ℕ) (step : ℕ) (layer : List (Kept S)) → IsGathering problem limit step layer [] []
-gathering_first problem limit step layer = record { grew = λ k o. absurd o; beats = λ k o. absurd o; all = λ k o. absurd o }
+gathering_first problem limit step layer = record { grew = λ k o. absurd o; unpruned = λ k o. absurd o; all = λ k o. absurd o }
 
 grew_from : {S : Type 0} (problem : Problem S) (limit : Option ℕ) (step : ℕ) (layer : List (Kept S)) (i : ℕ) (x k : Kept S) → i < length layer → x ≡ get_or layer i x →
     IsGathered problem limit (step + 1) i (successors_of problem step x.label) k → GrewFrom problem step layer k
@@ -122,7 +102,7 @@ grew_from problem limit step layer i x k lt e h = record {
   parent = x;
   there = ap (slice_get layer) h.parent ∙ slice_get_read layer (length layer) i x refl lt e;
   grown = h.grown;
-  has_bound = h.has_bound;
+  has_bound = unpruned_has_bound problem limit (step + 1) k.label h.unpruned;
 }
 
 pub gathering_more : {S : Type 0} (problem : Problem S) (limit : Option ℕ) (step : ℕ) (layer list new : List (Kept S)) (i : ℕ) (x : Kept S) → i < length layer → x ≡ get_or layer i x →
@@ -131,7 +111,7 @@ gathering_more {S} problem limit step layer list new i x lt e h f =
     let more : take (i + 1) layer ≡ take i layer ++ x ∷ [] = take_more layer i x lt ∙ ap (λ y. take i layer ++ y ∷ []) (sym e) in
     record {
       grew = λ k o. elim (f.only k o) [ inl a ↦ h.grew k a | inr b ↦ grew_from problem limit step layer i x k lt e b ];
-      beats = λ k o. elim (f.only k o) [ inl a ↦ h.beats k a | inr b ↦ b.beats ];
+      unpruned = λ k o. elim (f.only k o) [ inl a ↦ h.unpruned k a | inr b ↦ b.unpruned ];
       all = λ k o m q.
           elim (one_of-append (take i layer) (x ∷ []) k (subst (λ ys. IsOneOf ys k) more o)) [
             | inl a ↦ elim (h.all k a m q) [ inl off ↦ inl off | inr l ↦ inr (labels_keep list new f.keeps m.label l) ]
@@ -146,7 +126,7 @@ pub gathered_sorted : {S : Type 0} (problem : Problem S) (limit : Option ℕ) (s
     AreGathered problem limit step layer new
 gathered_sorted problem limit step layer list new i le h same = record {
   grew = λ k o. h.grew k (one_of_permuted list new same k o);
-  beats = λ k o. h.beats k (one_of_permuted list new same k o);
+  unpruned = λ k o. h.unpruned k (one_of_permuted list new same k o);
   all = λ k o m q. elim (h.all k (subst (λ ys. IsOneOf ys k) (sym (take_all i layer le)) o) m q) [
     | inl off ↦ inl off
     | inr l ↦ inr (labels_keep list new (λ j p. one_of_permuted new list (IsPermutation-sym list new same) j p) m.label l)

@@ -6,12 +6,11 @@ use Rattle.std.proofs.lemmas.Bool.{cases_lt}
 use Rattle.std.proofs.lemmas.List.{nil_from_length}
 use Rattle.rule_core.specs.declared.roots.Root.{Root}
 use Rattle.rule_core.specs.Reach.{IsOneOf}
-use Rattle.tour_model.specs.declared.label.Label.{Label}
 use Rattle.tour_model.specs.Layer.{layer_at}
 use Rattle.cert_text.specs.declared.grown.Grown.{Grown}
 use Rattle.cert_text.specs.Problem.{Problem, root_label, successors_of}
-use Rattle.cert_text.specs.Cover.{IsCovered, NoneIsBetter, IsAtLeast, taken, IsTooLong, IsPruned, IsLabelAt, IsCoverList}
-use Rattle.cert_text.specs.Laws.CoverLaws.{at_least_more}
+use Rattle.cert_text.specs.Cover.{IsCovered, NoneIsBetter, IsAtLeast, taken, IsPruned, IsLabelAt, IsCoverList}
+use Rattle.cert_text.specs.Laws.CoverLaws.{at_least_more, pruned_more}
 use Rattle.label_state.specs.declared.kept.Kept.{Kept}
 use Rattle.label_state.specs.declared.kept.Place.{Place}
 use Rattle.label_state.specs.Layers.{labels_of, label_layers, label_count}
@@ -64,19 +63,13 @@ none_by ys n b e t f = let g : (n == 0) ≡ true = sym t ∙ f in let h : n ≡ 
 
 -- ---- limits that fall
 
-long_less : {S : Type 0} (problem : Problem S) (a b : Option ℕ) (step : ℕ) (l : Label S) → ((n : ℕ) → IsAtLeast a n → IsAtLeast b n) → IsPruned problem a step l → IsPruned problem b step l
-long_less problem a b step l less h = elim h [
-  | inl e ↦ inl e
-  | inr t ↦ inr (record { depart = t.depart; bound = t.bound; departed = t.departed; ends = t.ends; long = less (t.bound - t.depart) t.long })
-]
-
 -- Each successor of a layer's labels is pruned, or has a better label in the next.
 abbrev pub AreAnswered : {S : Type 0} → Problem S → Option ℕ → ℕ → List (Kept S) → List (Kept S) → Type 0
 AreAnswered {S} problem limit step layer next =
     (k : Kept S) → IsOneOf layer k → (g : Grown S) → IsOneOf (successors_of problem step k.label) g → IsPruned problem limit (step + 1) g.label ⊎ IsCovered problem (step + 1) (labels_of next) g.label
 
 answered_less : {S : Type 0} (problem : Problem S) (a b : Option ℕ) (step : ℕ) (layer next : List (Kept S)) → ((n : ℕ) → IsAtLeast a n → IsAtLeast b n) → AreAnswered problem a step layer next → AreAnswered problem b step layer next
-answered_less problem a b step layer next less h k o g q = elim (h k o g q) [ inl t ↦ inl (long_less problem a b (step + 1) g.label less t) | inr c ↦ inr c ]
+answered_less problem a b step layer next less h k o g q = elim (h k o g q) [ inl t ↦ inl (pruned_more (IsAtLeast a) (IsAtLeast b) g.label.depart (problem.bound (step + 1) g.label) less t) | inr c ↦ inr c ]
 
 -- ---- what a search knows
 
@@ -110,14 +103,14 @@ sound_more {S} problem roots layers next list step room limit e h g f finished =
     ]
   ];
   better = each_layer layers next (λ s ys. NoneIsBetter problem s (labels_of ys)) (λ s lt. h.better s) f.better (λ s. tt);
-  beats = λ s after x k lt ox done ok t.
+  unpruned = λ s after x k lt ox done ok t.
       elim (cases_lt s (length layers)) [
         | inl a ↦ (let here = subst (λ ys. IsOneOf ys x) (layer_old layers next s a) ox in
-            each_layer layers next (λ n ys. s < n → IsOneOf ys k → IsTooLong problem (Some (taken s x.label)) n k.label → ⊥)
-            (λ n l less o too. h.beats s n x k less here done o too)
-            (λ less o too. subst (λ n. IsTooLong problem limit n k.label → ⊥) (sym e) (g.beats k (f.only k o))
-            (record { depart = too.depart; bound = too.bound; departed = too.departed; ends = too.ends; long = at_least_more limit (taken s x.label) (too.bound - too.depart) too.long (finished s x here done) }))
-            (λ n less o too. absurd o) after lt ok t)
+            each_layer layers next (λ n ys. s < n → IsOneOf ys k → IsPruned problem (Some (taken s x.label)) n k.label → ⊥)
+            (λ n l less o off. h.unpruned s n x k less here done o off)
+            (λ less o off. subst (λ n. IsPruned problem limit n k.label → ⊥) (sym e) (g.unpruned k (f.only k o))
+            (pruned_more (IsAtLeast (Some (taken s x.label))) (IsAtLeast limit) k.label.depart (problem.bound (length layers) k.label) (λ n long. at_least_more limit (taken s x.label) n long (finished s x here done)) off))
+            (λ n less o off. absurd o) after lt ok t)
         | inr a ↦ (let less = lt in absurd (subst (λ ys. IsOneOf ys k) (layer_past (layers ++ next ∷ []) after (let d = length-append layers (next ∷ []) in omega arith)) ok))
       ];
   ordered = λ s. each_layer layers next (λ n ys. 0 < n → AreOrdered ys) (λ n l less. subst (λ m. AreOrdered (layer_at layers m)) (let q : (n - 1) + 1 ≡ n = omega arith in q) (h.ordered (n - 1))) (λ less. f.ordered) (λ n less. tt) (s + 1) (omega arith);
@@ -211,7 +204,7 @@ searching_first {S} problem roots is_state budget best list layers goal none a l
         first = λ k o. a.first k (f.only k o);
         grew = λ s k o. absurd (subst (λ ys. IsOneOf ys k) (only_next first s) o);
         better = only_layer first (λ s ys. NoneIsBetter problem s (labels_of ys)) f.better (λ s. tt);
-        beats = λ s after x k lt ox done ok t. absurd (subst (λ ys. IsOneOf ys k) (layer_past ([] ++ first ∷ []) after (omega arith)) ok);
+        unpruned = λ s after x k lt ox done ok t. absurd (subst (λ ys. IsOneOf ys k) (layer_past ([] ++ first ∷ []) after (omega arith)) ok);
         ordered = λ s. subst AreOrdered (sym (only_next first s)) tt;
       };
       rooted = first_layer problem roots budget (budget - label_count {X = Kept S} []) list first (omega arith) a f;

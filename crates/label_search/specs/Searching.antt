@@ -1,5 +1,5 @@
 -- What the parts of a search promise of the labels that they make.
-use Rattle.std.specs.Prelude.{◌≡◌, ℕ, ◌+◌, ◌-◌, ◌<◌, ◌≤◌, Bool, true, false, List, [], ◌∷◌, ◌++◌, ◌⊎◌, length, nat_le, nat_lt, not, Option, None, Some, slice_get}
+use Rattle.std.specs.Prelude.{◌≡◌, ℕ, ◌+◌, ◌-◌, ◌<◌, ◌≤◌, Bool, true, List, [], ◌∷◌, ◌++◌, ◌⊎◌, length, nat_lt, Option, None, Some, slice_get}
 use Rattle.std.specs.List.Sorted.{IsStrictlyIncreasing}
 use Rattle.duty_core.specs.declared.activity.Activity.{Activity}
 use Rattle.rule_core.specs.declared.roots.Root.{Root}
@@ -13,8 +13,8 @@ use Rattle.label_search.specs.declared.best.Best.{Best}
 use Rattle.label_search.specs.declared.by_layers.Searched.{Searched}
 use Rattle.label_search.specs.declared.by_layers.Searched.TheVariants.{Found, Never}
 use Rattle.label_state.specs.Layers.{labels_of, label_count}
-use Rattle.cert_text.specs.Problem.{Problem, root_label, successors_of, HasBound}
-use Rattle.cert_text.specs.Cover.{IsCovered, NoneIsBetter, IsAtLeast, taken, IsTooLong, IsPruned, IsLabelAt}
+use Rattle.cert_text.specs.Problem.{Problem, root_label, successors_of}
+use Rattle.cert_text.specs.Cover.{IsCovered, NoneIsBetter, IsAtLeast, taken, IsPruned, IsLabelAt}
 use Rattle.label_search.specs.Sound.{IsFirst, parents_of, IsCoveredBefore, IsFullBefore, GrewFrom, AreOrdered}
 use Rattle.cert_text.specs.Continuation.{Continues, takes}
 
@@ -31,23 +31,11 @@ abbrev pub rank_of : Option ℕ → ℕ
 rank_of None = 0
 rank_of (Some depart) = 4294967296 - depart
 
--- whether a label that ends at this step takes at least the limit; one that has not departed takes no time yet
-abbrev pub is_long : Option ℕ → Option ℕ → ℕ → Bool
-is_long None depart eta = false
-is_long (Some limit) None eta = false
-is_long (Some limit) (Some depart) eta = nat_le limit (eta - depart)
-
--- whether a label has to be kept, by its departure and the step at which it would end
-abbrev pub is_useful : Option ℕ → Option ℕ → Option ℕ → Bool
-is_useful limit depart None = false
-is_useful limit depart (Some eta) = not (is_long limit depart eta)
-
--- A label of a list that stands for one of the successors of the parent at this place; it has to be kept.
+-- A label of a list that stands for one of the successors of the parent at this place; it is not pruned.
 pub record IsGathered {S : Type 0} (problem : Problem S) (limit : Option ℕ) (step place : ℕ) (gs : List (Grown S)) (k : Kept S) : Type 0 where
   pub parent : k.parent ≡ place
   pub grown : IsOneOf gs (record { label = k.label; act = k.act; mark = k.mark })
-  pub has_bound : HasBound problem step k.label
-  pub beats : IsTooLong problem limit step k.label → ⊥
+  pub unpruned : IsPruned problem limit step k.label → ⊥
 
 -- What gathering the successors of the parent at this place adds to a list: those that are not pruned.
 pub record Gathers {S : Type 0} (problem : Problem S) (limit : Option ℕ) (step place : ℕ) (gs : List (Grown S)) (old new : List (Kept S)) : Type 0 where
@@ -58,7 +46,7 @@ pub record Gathers {S : Type 0} (problem : Problem S) (limit : Option ℕ) (step
 -- The list holds the successors of a layer's labels but for those that are pruned.
 pub record AreGathered {S : Type 0} (problem : Problem S) (limit : Option ℕ) (step : ℕ) (layer list : List (Kept S)) : Type 0 where
   pub grew : (k : Kept S) → IsOneOf list k → GrewFrom problem step layer k
-  pub beats : (k : Kept S) → IsOneOf list k → IsTooLong problem limit (step + 1) k.label → ⊥
+  pub unpruned : (k : Kept S) → IsOneOf list k → IsPruned problem limit (step + 1) k.label → ⊥
   pub all : (k : Kept S) → IsOneOf layer k → (g : Grown S) → IsOneOf (successors_of problem step k.label) g → IsPruned problem limit (step + 1) g.label ⊎ IsOneOf (labels_of list) g.label
 
 -- The list holds the labels of the roots, in their order.

@@ -1,5 +1,5 @@
 -- Sound layers, each label of which grew from a root, and worked ones, of which nothing was left out but in the last.
-use Rattle.std.specs.Prelude.{◌≡◌, ℕ, ◌+◌, ◌-◌, ◌<◌, ◌≤◌, true, List, [], ◌∷◌, ◌⊎◌, zero, suc, length, map, None, Some, slice_get}
+use Rattle.std.specs.Prelude.{◌≡◌, ℕ, ◌+◌, ◌<◌, ◌≤◌, true, List, [], ◌∷◌, ◌⊎◌, zero, suc, length, map, None, Some, slice_get}
 use Rattle.std.specs.List.Sorted.{IsStrictlyIncreasing}
 use Rattle.duty_core.specs.declared.activity.Activity.TheVariants.{Off}
 use Rattle.rule_core.specs.declared.roots.Root.{Root}
@@ -10,7 +10,7 @@ use Rattle.label_state.specs.declared.kept.Kept.{Kept}
 use Rattle.tour_model.specs.Layer.{layer_at}
 use Rattle.label_state.specs.Layers.{labels_of, label_count}
 use Rattle.cert_text.specs.Problem.{Problem, root_label, successors_of, is_better, later, HasBound}
-use Rattle.cert_text.specs.Cover.{IsCovered, NoneIsBetter, taken, IsTooLong}
+use Rattle.cert_text.specs.Cover.{IsCovered, NoneIsBetter, taken, IsPrunedBy, IsPruned}
 
 -- The label of the first layer is that of the root at the place of its parent; its activity is `Off`, and it has no mark.
 pub record IsFirst {S : Type 0} (roots : List (Root S)) (k : Kept S) : Type 0 where
@@ -56,32 +56,20 @@ abbrev pub AreOrdered : {S : Type 0} → List (Kept S) → Type 0
 AreOrdered [] = Unit {0}
 AreOrdered {S} (k ∷ ks) = ((m : Kept S) → IsOneOf ks m → StandsBefore k.label m.label) × AreOrdered ks
 
--- Each label of the layers is reached from a root through its parents; none has an earlier better one in its layer; none is bound to take as long as one that was finished in an earlier layer; and each layer after the first is in order.
+-- Each label of the layers is reached from a root through its parents; none has an earlier better one in its layer; none is pruned by the duration of one that was finished in an earlier layer; and each layer after the first is in order.
 pub record IsSound {S : Type 0} (problem : Problem S) (roots : List (Root S)) (layers : List (List (Kept S))) : Type 0 where
   pub first : (k : Kept S) → IsOneOf (layer_at layers 0) k → IsFirst roots k
   pub grew : (step : ℕ) (k : Kept S) → IsOneOf (layer_at layers (step + 1)) k → GrewFrom problem step (layer_at layers step) k
   pub better : (step : ℕ) → NoneIsBetter problem step (labels_of (layer_at layers step))
-  pub beats : (step after : ℕ) (f k : Kept S) → step < after → IsOneOf (layer_at layers step) f → f.label.progress ≡ problem.goal → IsOneOf (layer_at layers after) k →
-      IsTooLong problem (Some (taken step f.label)) after k.label → ⊥
+  pub unpruned : (step after : ℕ) (f k : Kept S) → step < after → IsOneOf (layer_at layers step) f → f.label.progress ≡ problem.goal → IsOneOf (layer_at layers after) k →
+      IsPruned problem (Some (taken step f.label)) after k.label → ⊥
   pub ordered : (step : ℕ) → AreOrdered (layer_at layers (step + 1))
 
--- A departed label ends no sooner after its departure than a solution: `solves` tells for which durations there is a solution that takes no more.
-pub record IsDominated {S : Type 0} (problem : Problem S) (solves : ℕ → Type 0) (step : ℕ) (l : Label S) : Type 0 where
-  pub depart : ℕ
-  pub bound : ℕ
-  pub departed : l.depart ≡ Some depart
-  pub ends : problem.bound step l ≡ Some bound
-  pub solved : solves (bound - depart)
-
--- A label need not be kept: its windows can no longer be met, or it can do no better than some solution.
-abbrev pub IsIdle : {S : Type 0} → Problem S → (ℕ → Type 0) → ℕ → Label S → Type 0
-IsIdle problem solves step l = (problem.bound step l ≡ None) ⊎ IsDominated problem solves step l
-
--- Where there is a second layer, the first one has a label for each state in which the driver may start. And up to the last layer but one, each successor of an unfinished label need not be kept, or has a better label in the next layer.
+-- Where there is a second layer, the first one has a label for each state in which the driver may start. And up to the last layer but one, each successor of an unfinished label is pruned, since it can do no better than some solution or can end nowhere, or has a better label in the next layer. `solves` tells for which durations there is a solution that takes no more.
 pub record IsWorked {S : Type 0} (problem : Problem S) (starts : S → Type 0) (solves : ℕ → Type 0) (layers : List (List (Kept S))) : Type 0 where
   pub started : 1 < length layers → (s : S) → starts s → IsCovered problem 0 (labels_of (layer_at layers 0)) (root_label s)
   pub answered : (step : ℕ) → step + 2 < length layers → (k : Kept S) → IsOneOf (layer_at layers step) k → k.label.progress < problem.goal → (g : Grown S) → IsOneOf (successors_of problem step k.label) g →
-      IsIdle problem solves (step + 1) g.label ⊎ IsCovered problem (step + 1) (labels_of (layer_at layers (step + 1))) g.label
+      IsPrunedBy solves g.label.depart (problem.bound (step + 1) g.label) ⊎ IsCovered problem (step + 1) (labels_of (layer_at layers (step + 1))) g.label
 
 -- A label is reachable at the start where it is the first label of a state in which the driver may start, and later where it grows from a reachable one and can still be finished.
 abbrev pub IsReachable : {S : Type 0} → Problem S → (S → Type 0) → ℕ → Label S → Type 0

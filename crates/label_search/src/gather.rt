@@ -9,9 +9,10 @@ ghost use Rattle.cert_text.specs.Problem.{successors_of};
 ghost use Rattle.cert_text.specs.Planning.{problem_of, state_at};
 ghost use Rattle.cert_text.specs.Cover.{IsLabelAt};
 ghost use Rattle.label_search.specs.Sound.{AreOrdered};
-ghost use Rattle.label_search.specs.Searching.{AreLabelsAt, Gathers, AreGathered, AreFirst, is_useful};
+ghost use Rattle.label_search.specs.Searching.{AreLabelsAt, Gathers, AreGathered, AreFirst};
 
 use crate::order::put_in_order;
+use cert_text::is_pruned;
 use duty_core::{Activity, NoMemory};
 use label_extend::{Grown, successors};
 use label_state::{Kept, Label};
@@ -19,21 +20,7 @@ use rule_core::{Root, RuleBook};
 use std::alloc::Global;
 use tour_model::Tour;
 
-/// Whether a label has to be kept: it can still be finished, and unless it has not departed, it
-/// might take less than the limit.
-pub fn is_worth_keeping(limit: Option<u32>, depart: Option<u32>, eta: Option<u32>) -> bool
-    ensures { result ≡ is_useful limit depart eta }
-{
-    let Some(eta) = eta else {
-        return false;
-    };
-    match (limit, depart) {
-        (Some(limit), Some(depart)) => eta.saturating_sub(depart) < limit,
-        _ => true,
-    }
-}
-
-/// Adds the successors of the label at the place `parent` of this step's layer that have to be kept.
+/// Adds the successors of the label at the place `parent` of this step's layer that are not pruned.
 fn gather_from<B: RuleBook>(
     alloc: Global,
     book: &B,
@@ -54,7 +41,7 @@ fn gather_from<B: RuleBook>(
     for grown in successors(alloc, book, tour, label, step)?.into_vec() {
         let Grown { label, act, mark } = grown;
         let eta = tour.eta(step + 1, label.progress);
-        if is_worth_keeping(limit, label.depart, eta) {
+        if !is_pruned(limit, label.depart, eta) {
             list.push(Kept {
                 label,
                 parent,
@@ -66,7 +53,7 @@ fn gather_from<B: RuleBook>(
     Ok(())
 }
 
-/// The successors of the labels of this step's layer that have to be kept, in the order in which
+/// The successors of the labels of this step's layer that are not pruned, in the order in which
 /// they are offered to the next one.
 pub fn gather<B: RuleBook>(
     alloc: Global,

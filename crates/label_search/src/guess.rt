@@ -11,7 +11,7 @@ ghost use Rattle.label_dominance.specs.Offers.{AreStatesAt};
 ghost use Rattle.label_search.specs.Searching.{IsRootState, IsLimit};
 ghost use Rattle.label_search.specs.Ways.{IsReached, AreReached, AreRankedReached, IsGuess, IsLessOf, IsLeastOf, ArePartsOf};
 
-use crate::gather::is_worth_keeping;
+use cert_text::is_pruned;
 use duty_core::NoMemory;
 use label_dominance::better;
 use label_extend::successors;
@@ -132,7 +132,7 @@ fn grow_label<B: RuleBook>(
         let label = grown.label;
         if let Some(eta) = tour.eta(step + 1, label.progress) {
             let ends = ends_about(book, tour, &label, step + 1, eta);
-            if is_worth_keeping(best, label.depart, Some(ends)) {
+            if !is_pruned(best, label.depart, Some(ends)) {
                 list.push(Ranked { ends, label })?;
             }
         }

@@ -1,4 +1,5 @@
-use Rattle.std.proofs.Common.{◌+◌, ◌∷◌, [], length, sym, ap, subst, ◌∙◌, arith}
+use Rattle.std.proofs.Common.{◌+◌, ◌∷◌, [], length, sym, subst, ◌∙◌, arith}
+use Rattle.std.proofs.lemmas.Bool.{iff_false}
 use Rattle.std.proofs.lemmas.List.{map-id}
 use Rattle.std.proofs.lemmas.Iterator.Adapters.{YieldsList-from_vec}
 use Rattle.std.proofs.lemmas.Iterator.Consumers.{YieldsList-turn, YieldsList-end}
@@ -6,9 +7,9 @@ use Rattle.rule_core.specs.Reach.{IsOneOf}
 use Rattle.rule_core.specs.Laws.OneOf.{one_of_item}
 use Rattle.tour_model.specs.Word.{word_length}
 use Rattle.cert_text.specs.Planning.{problem_of, state_at}
-use Rattle.cert_text.specs.Cover.{IsLabelAt}
-use Rattle.label_search.specs.Searching.{Gathers, is_useful}
-use Rattle.label_search.proofs.GatherLaws.{gathers_on, gathers_pushed, gathers_pruned, useless_pruned}
+use Rattle.cert_text.specs.Cover.{IsPrunedAt, IsLabelAt}
+use Rattle.label_search.specs.Searching.{Gathers}
+use Rattle.label_search.proofs.GatherLaws.{gathers_on, gathers_pushed, gathers_pruned}
 use Rattle.label_search.proofs.gather.gather_from.Goals as goal
 use Rattle.label_search.proofs.gather.gather_from.Goals.{In-Some}
 
@@ -33,7 +34,7 @@ loop-grown-preserved-in_ok-push g c =
       gathered = gathers_on problem c.args.limit (c.args.step + 1) c.args.parent c.loop-grown.yielded (c.in-Some.grown ∷ []) c.args.list.now.items c.loop-grown.list.items c.push.new.self.items c.loop-grown.invariant.gathered
           (subst (λ ys. Gathers problem c.args.limit (c.args.step + 1) c.args.parent (c.in-Some.grown ∷ []) c.loop-grown.list.items ys) (sym c.in_ok-push.ensures.items)
           (gathers_pushed problem c.args.limit (c.args.step + 1) c.args.parent c.in-Some.grown c.loop-grown.list.items
-          (sym (ap (is_useful c.args.limit l.depart) c.eta-eta.ensures.value) ∙ (sym c.is_worth_keeping.ensures ∙ c.if-is_worth_keeping.true))));
+          (λ off. iff_false c.is_pruned.ensures c.if-not-is_pruned.true (subst (IsPrunedAt c.args.limit l.depart) (sym c.eta-eta.ensures.value) off))));
     }
 
 pub loop-grown-preserved : goal.loop-grown-preserved
@@ -45,7 +46,7 @@ loop-grown-preserved g c =
       finite = tt;
       gathered = gathers_on problem c.args.limit (c.args.step + 1) c.args.parent c.loop-grown.yielded (c.in-Some.grown ∷ []) c.args.list.now.items c.loop-grown.list.items c.loop-grown.list.items c.loop-grown.invariant.gathered
           (gathers_pruned problem c.args.limit (c.args.step + 1) c.args.parent c.in-Some.grown c.loop-grown.list.items
-          (useless_pruned problem c.args.limit (c.args.step + 1) l (sym (ap (is_useful c.args.limit l.depart) c.eta-eta.ensures.value) ∙ (sym c.is_worth_keeping.ensures ∙ c.if-is_worth_keeping.false))));
+          (subst (IsPrunedAt c.args.limit l.depart) c.eta-eta.ensures.value (c.is_pruned.ensures.0 c.if-not-is_pruned.false)));
     }
 
 pub returns : goal.returns
