@@ -32,16 +32,20 @@ same_way Defer Defer = true
 abbrev pub loses_no_more : DayCount → DayCount → Bool
 loses_no_more a b = nat_le a.lost b.lost && nat_le (a.lost + a.short) (b.lost + b.short)
 
-abbrev pub may_defer : CanadaDays → CanadaDays → Bool
-may_defer a b = nat_le (a.yesterday.lost + a.yesterday.short) CA_LOST_LIMIT || nat_le b.today.longest a.today.longest
+-- yesterday asks nothing any more, or it loses no more, and the longest rest with a minute in today is no shorter
+abbrev pub yesterday_covers : CanadaDays → CanadaDays → Bool
+yesterday_covers a b = nat_le (a.yesterday.lost + a.yesterday.short) CA_LOST_LIMIT || (loses_no_more a.yesterday b.yesterday && nat_le b.today.longest a.today.longest)
 
+-- a deferral from the day before yesterday asks nothing any more, or ends as well
 abbrev pub ends_as_well : CanadaDays → CanadaDays → Bool
-ends_as_well a b = nat_le a.before CA_LOST_LIMIT || (nat_le a.before b.before && (nat_le b.yesterday.longest a.yesterday.longest && (not b.reaches || a.reaches)))
+ends_as_well a b =
+    nat_le a.before CA_LOST_LIMIT
+    || (nat_le a.before b.before && (loses_no_more a.yesterday b.yesterday && (nat_le b.yesterday.longest a.yesterday.longest && (not b.reaches || a.reaches))))
 
 -- the days of the next minute may stand for others
 abbrev pub days_cover : CanadaDays → CanadaDays → Bool
 days_cover a b =
-    same_way a.way b.way && (nat_eq a.minute b.minute && (nat_le b.rest a.rest && (loses_no_more a.today b.today && (loses_no_more a.yesterday b.yesterday && (may_defer a b && ends_as_well a b)))))
+    same_way a.way b.way && (nat_eq a.minute b.minute && (nat_le b.rest a.rest && (loses_no_more a.today b.today && (yesterday_covers a b && ends_as_well a b))))
 
 -- of each number of youngest days up to n the duty is no more
 abbrev pub sums_within : ℕ → List ℕ → List ℕ → Bool

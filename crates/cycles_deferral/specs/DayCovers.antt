@@ -11,13 +11,14 @@ pub record LosesNoMore (a b : DayCount) : Type 0 where
   pub at_rest : a.lost ≤ b.lost
   pub at_duty : a.lost + a.short ≤ b.lost + b.short
 
--- No rest is deferred from yesterday to today, or the longest rest with a minute in today is no shorter.
-abbrev pub MayDeferAsWell : CanadaDays → CanadaDays → Type 0
-MayDeferAsWell a b = (a.yesterday.lost + a.yesterday.short ≤ CA_LOST_LIMIT) ⊎ (b.today.longest ≤ a.today.longest)
+-- Yesterday loses too little for a deferral and cannot lose more, or it loses no more than the other, and the longest rest with a minute in today is no shorter.
+abbrev pub YesterdayCovers : CanadaDays → CanadaDays → Type 0
+YesterdayCovers a b = (a.yesterday.lost + a.yesterday.short ≤ CA_LOST_LIMIT) ⊎ (LosesNoMore a.yesterday b.yesterday × (b.today.longest ≤ a.today.longest))
 
--- what a deferral from the day before yesterday compares
+-- a deferral from the day before yesterday ends as well
 pub record EndsAsWell (a b : CanadaDays) : Type 0 where
   pub fewer : a.before ≤ b.before
+  pub yesterday : LosesNoMore a.yesterday b.yesterday
   pub longer : b.yesterday.longest ≤ a.yesterday.longest
   pub reaches : b.reaches ≡ true → a.reaches ≡ true
 
@@ -27,8 +28,7 @@ pub record DaysCover (a b : CanadaDays) : Type 0 where
   pub same_minute : a.minute ≡ b.minute
   pub rested : b.rest ≤ a.rest
   pub today_no_more : LosesNoMore a.today b.today
-  pub yesterday_no_more : LosesNoMore a.yesterday b.yesterday
-  pub may_defer : MayDeferAsWell a b
+  pub yesterday : YesterdayCovers a b
   pub ends : (a.before ≤ CA_LOST_LIMIT) ⊎ EndsAsWell a b
 
 -- # One more minute

@@ -1,7 +1,7 @@
 //! Days that may stand for others.
 ghost use Rattle.std.specs.Prelude.{◌≡◌, ◌+◌, ◌<◌, ◌↔◌, true};
 ghost use Rattle.cycles_deferral.specs.DayMachine.{IsCanadaDays, days_begun};
-ghost use Rattle.cycles_deferral.specs.DayCovers.{LosesNoMore, MayDeferAsWell, EndsAsWell, DaysCover};
+ghost use Rattle.cycles_deferral.specs.DayCovers.{LosesNoMore, YesterdayCovers, EndsAsWell, DaysCover};
 
 use crate::days::{CanadaDays, DayCount};
 use duty_core::{CA_LOST_LIMIT, RestWay};
@@ -30,28 +30,33 @@ impl CanadaDays {
         let same = same_way(self.way(), other.way()) && self.minute() == other.minute();
         let rested = other.rest() <= self.rest();
         let today = self.today().loses_no_more(other.today());
-        let yesterday = self.yesterday().loses_no_more(other.yesterday());
         let ends = self.before() <= CA_LOST_LIMIT || self.ends_as_well(other);
-        same && rested && today && yesterday && self.may_defer_as_well(other) && ends
+        same && rested && today && self.yesterday_covers(other) && ends
     }
 
-    /// Whether no rest is deferred from yesterday to today, or the longest rest of today is no
-    /// shorter.
-    fn may_defer_as_well(self, other: CanadaDays) -> bool
+    /// Whether yesterday asks nothing any more, since it loses too little for a deferral and cannot
+    /// lose more, or loses no more than that of `other`, with no shorter longest rest of today.
+    fn yesterday_covers(self, other: CanadaDays) -> bool
         requires good { IsCanadaDays self }
-        ensures { (result ≡ true) ↔ MayDeferAsWell self other }
+        requires other_good { IsCanadaDays other }
+        ensures { (result ≡ true) ↔ YesterdayCovers self other }
     {
         let yesterday = self.yesterday();
-        yesterday.lost + yesterday.short <= CA_LOST_LIMIT
-            || other.today().longest <= self.today().longest
+        let kept = yesterday.lost + yesterday.short <= CA_LOST_LIMIT;
+        let longer = other.today().longest <= self.today().longest;
+        kept || (yesterday.loses_no_more(other.yesterday()) && longer)
     }
 
     /// Whether a deferral from the day before yesterday ends as well.
     fn ends_as_well(self, other: CanadaDays) -> bool
+        requires good { IsCanadaDays self }
+        requires other_good { IsCanadaDays other }
         ensures { (result ≡ true) ↔ EndsAsWell self other }
     {
         let longer = other.yesterday().longest <= self.yesterday().longest;
-        self.before() <= other.before() && longer && (!other.reaches() || self.reaches())
+        let reaches = !other.reaches() || self.reaches();
+        let no_more = self.yesterday().loses_no_more(other.yesterday());
+        self.before() <= other.before() && no_more && longer && reaches
     }
 }
 

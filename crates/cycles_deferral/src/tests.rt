@@ -241,6 +241,26 @@ fn days_with_less_lost_stand_for_others(rt: HostRuntime) {
     );
 }
 
+#[test]
+fn yesterday_is_compared_only_where_it_lost_too_much(rt: HostRuntime) {
+    // An hour into the second day, at rest since the first one's duty.
+    let fewer = [0, 500, 1_000];
+    let within = [0, 840, 660];
+    let above = [0, 841, 659];
+    assert_eq!(rt;
+        stands(within.as_slice(), fewer.as_slice(), false),
+        Some(true)
+    );
+    assert_eq!(rt;
+        stands(above.as_slice(), within.as_slice(), false),
+        Some(false)
+    );
+    assert_eq!(rt;
+        stands(within.as_slice(), above.as_slice(), false),
+        Some(true)
+    );
+}
+
 /// The counts of a cycle after so many minutes of an activity, all in one day.
 fn counted(count: CycleCount, act: Activity, n: u32) -> Option<CycleCount>
     requires good { IsCycleCount count }

@@ -28,7 +28,7 @@ use Rattle.cycles_deferral.specs.declared.days.DayCount.{DayCount}
 use Rattle.cycles_deferral.specs.declared.days.CanadaDays.{CanadaDays}
 use Rattle.cycles_deferral.specs.declared.cycle.CycleCount.{CycleCount}
 use Rattle.cycles_deferral.specs.DayMachine.{days_begun}
-use Rattle.cycles_deferral.specs.DayCovers.{LosesNoMore, MayDeferAsWell, EndsAsWell, DaysCover}
+use Rattle.cycles_deferral.specs.DayCovers.{LosesNoMore, YesterdayCovers, EndsAsWell, DaysCover}
 use Rattle.cycles_deferral.specs.Laws.DayCovers.{days_cover_self, days_cover_over, cover_begun, days_simulate}
 use Rattle.cycles_deferral.specs.CycleCovers.{CycleCovers}
 use Rattle.cycles_deferral.specs.Laws.CycleCovers.{cycle_covers_self, cycle_covers_over, cycle_simulates}
@@ -38,7 +38,7 @@ use Rattle.canada_rules.specs.declared.state.CanadaState.{CanadaState}
 use Rattle.canada_rules.specs.Machine.{ca_fits, ca_may, begins_day, ca_date, day_begun, day_more, day_after, day_keeps, calendar_made, ca_next, ca_nexts, IsCanadaState}
 use Rattle.canada_rules.specs.Laws.CalendarSteps.{after_means, means_after}
 use Rattle.canada_rules.specs.Laws.Paths.{next_means, means_next}
-use Rattle.canada_rules.specs.Covers.{day_covers, same_way, loses_no_more, may_defer, ends_as_well, days_cover, sums_within, cycle_covers, covers_state}
+use Rattle.canada_rules.specs.Covers.{day_covers, same_way, loses_no_more, yesterday_covers, ends_as_well, days_cover, sums_within, cycle_covers, covers_state}
 
 -- # What the tests mean
 
@@ -96,17 +96,24 @@ no_more_means a b h = record {
 no_more_from : (a b : DayCount) → LosesNoMore a b → loses_no_more a b ≡ true
 no_more_from a b h = and_both (nat_le a.lost b.lost) (nat_le (a.lost + a.short) (b.lost + b.short)) (is_upto a.lost b.lost h.at_rest) (is_upto (a.lost + a.short) (b.lost + b.short) h.at_duty)
 
-may_defer_means : (a b : CanadaDays) → may_defer a b ≡ true → MayDeferAsWell a b
-may_defer_means a b h = elim (or_cases (nat_le (a.yesterday.lost + a.yesterday.short) CA_LOST_LIMIT) (nat_le b.today.longest a.today.longest) h) [
-  | inl e ↦ inl (upto (a.yesterday.lost + a.yesterday.short) CA_LOST_LIMIT e)
-  | inr e ↦ inr (upto b.today.longest a.today.longest e)
-]
+yesterday_means : (a b : CanadaDays) → yesterday_covers a b ≡ true → YesterdayCovers a b
+yesterday_means a b h =
+    let n : Bool = loses_no_more a.yesterday b.yesterday in
+    let l : Bool = nat_le b.today.longest a.today.longest in
+    elim (or_cases (nat_le (a.yesterday.lost + a.yesterday.short) CA_LOST_LIMIT) (n && l) h) [
+      | inl e ↦ inl (upto (a.yesterday.lost + a.yesterday.short) CA_LOST_LIMIT e)
+      | inr e ↦ inr (no_more_means a.yesterday b.yesterday (and_left n l e), upto b.today.longest a.today.longest (and_right n l e))
+    ]
 
-may_defer_from : (a b : CanadaDays) → MayDeferAsWell a b → may_defer a b ≡ true
-may_defer_from a b h = elim h [
-  | inl l ↦ or_left (nat_le (a.yesterday.lost + a.yesterday.short) CA_LOST_LIMIT) (nat_le b.today.longest a.today.longest) (is_upto (a.yesterday.lost + a.yesterday.short) CA_LOST_LIMIT l)
-  | inr l ↦ or_right (nat_le (a.yesterday.lost + a.yesterday.short) CA_LOST_LIMIT) (nat_le b.today.longest a.today.longest) (is_upto b.today.longest a.today.longest l)
-]
+yesterday_from : (a b : CanadaDays) → YesterdayCovers a b → yesterday_covers a b ≡ true
+yesterday_from a b h =
+    let k : Bool = nat_le (a.yesterday.lost + a.yesterday.short) CA_LOST_LIMIT in
+    let n : Bool = loses_no_more a.yesterday b.yesterday in
+    let l : Bool = nat_le b.today.longest a.today.longest in
+    elim h [
+      | inl e ↦ or_left k (n && l) (is_upto (a.yesterday.lost + a.yesterday.short) CA_LOST_LIMIT e)
+      | inr e ↦ or_right k (n && l) (and_both n l (no_more_from a.yesterday b.yesterday e.0) (is_upto b.today.longest a.today.longest e.1))
+    ]
 
 reaches_means : (a b : Bool) → (not b || a) ≡ true → b ≡ true → a ≡ true
 reaches_means true b h e = refl
@@ -123,12 +130,14 @@ ends_means : (a b : CanadaDays) → ends_as_well a b ≡ true → (a.before ≤ 
 ends_means a b h =
     let r : Bool = not b.reaches || a.reaches in
     let l : Bool = nat_le b.yesterday.longest a.yesterday.longest in
-    elim (or_cases (nat_le a.before CA_LOST_LIMIT) (nat_le a.before b.before && (l && r)) h) [
+    let n : Bool = loses_no_more a.yesterday b.yesterday in
+    elim (or_cases (nat_le a.before CA_LOST_LIMIT) (nat_le a.before b.before && (n && (l && r))) h) [
       | inl e ↦ inl (upto a.before CA_LOST_LIMIT e)
-      | inr e ↦ (let f = and_right (nat_le a.before b.before) (l && r) e in inr (record {
-        fewer = upto a.before b.before (and_left (nat_le a.before b.before) (l && r) e);
-        longer = upto b.yesterday.longest a.yesterday.longest (and_left l r f);
-        reaches = reaches_means a.reaches b.reaches (and_right l r f);
+      | inr e ↦ (let f = and_right (nat_le a.before b.before) (n && (l && r)) e in let g = and_right n (l && r) f in inr (record {
+        fewer = upto a.before b.before (and_left (nat_le a.before b.before) (n && (l && r)) e);
+        yesterday = no_more_means a.yesterday b.yesterday (and_left n (l && r) f);
+        longer = upto b.yesterday.longest a.yesterday.longest (and_left l r g);
+        reaches = reaches_means a.reaches b.reaches (and_right l r g);
       }))
     ]
 
@@ -136,10 +145,14 @@ ends_from : (a b : CanadaDays) → (a.before ≤ CA_LOST_LIMIT) ⊎ EndsAsWell a
 ends_from a b h =
     let r : Bool = not b.reaches || a.reaches in
     let l : Bool = nat_le b.yesterday.longest a.yesterday.longest in
+    let n : Bool = loses_no_more a.yesterday b.yesterday in
+    let f : Bool = nat_le a.before b.before in
     elim h [
-      | inl e ↦ or_left (nat_le a.before CA_LOST_LIMIT) (nat_le a.before b.before && (l && r)) (is_upto a.before CA_LOST_LIMIT e)
-      | inr e ↦ or_right (nat_le a.before CA_LOST_LIMIT) (nat_le a.before b.before && (l && r))
-          (and_both (nat_le a.before b.before) (l && r) (is_upto a.before b.before e.fewer) (and_both l r (is_upto b.yesterday.longest a.yesterday.longest e.longer) (reaches_from a.reaches b.reaches e.reaches)))
+      | inl e ↦ or_left (nat_le a.before CA_LOST_LIMIT) (f && (n && (l && r))) (is_upto a.before CA_LOST_LIMIT e)
+      | inr e ↦ or_right (nat_le a.before CA_LOST_LIMIT) (f && (n && (l && r)))
+          (and_both f (n && (l && r)) (is_upto a.before b.before e.fewer)
+          (and_both n (l && r) (no_more_from a.yesterday b.yesterday e.yesterday)
+          (and_both l r (is_upto b.yesterday.longest a.yesterday.longest e.longer) (reaches_from a.reaches b.reaches e.reaches))))
     ]
 
 -- The test of days says whether they may stand for the others.
@@ -149,30 +162,27 @@ days_decide a b =
     let m : Bool = nat_eq a.minute b.minute in
     let r : Bool = nat_le b.rest a.rest in
     let t : Bool = loses_no_more a.today b.today in
-    let y : Bool = loses_no_more a.yesterday b.yesterday in
-    let d : Bool = may_defer a b in
+    let y : Bool = yesterday_covers a b in
     let e : Bool = ends_as_well a b in (
       (λ h.
-          let h1 = and_right w (m && (r && (t && (y && (d && e))))) h in
-          let h2 = and_right m (r && (t && (y && (d && e)))) h1 in
-          let h3 = and_right r (t && (y && (d && e))) h2 in
-          let h4 = and_right t (y && (d && e)) h3 in
-          let h5 = and_right y (d && e) h4 in
+          let h1 = and_right w (m && (r && (t && (y && e)))) h in
+          let h2 = and_right m (r && (t && (y && e))) h1 in
+          let h3 = and_right r (t && (y && e)) h2 in
+          let h4 = and_right t (y && e) h3 in
           record {
-            same_way = way_means a.way b.way (and_left w (m && (r && (t && (y && (d && e))))) h);
-            same_minute = same a.minute b.minute (and_left m (r && (t && (y && (d && e)))) h1);
-            rested = upto b.rest a.rest (and_left r (t && (y && (d && e))) h2);
-            today_no_more = no_more_means a.today b.today (and_left t (y && (d && e)) h3);
-            yesterday_no_more = no_more_means a.yesterday b.yesterday (and_left y (d && e) h4);
-            may_defer = may_defer_means a b (and_left d e h5);
-            ends = ends_means a b (and_right d e h5);
+            same_way = way_means a.way b.way (and_left w (m && (r && (t && (y && e)))) h);
+            same_minute = same a.minute b.minute (and_left m (r && (t && (y && e))) h1);
+            rested = upto b.rest a.rest (and_left r (t && (y && e)) h2);
+            today_no_more = no_more_means a.today b.today (and_left t (y && e) h3);
+            yesterday = yesterday_means a b (and_left y e h4);
+            ends = ends_means a b (and_right y e h4);
           }),
       (λ h.
-          and_both w (m && (r && (t && (y && (d && e))))) (subst (λ v. same_way a.way v ≡ true) h.same_way (way_itself a.way))
-          (and_both m (r && (t && (y && (d && e)))) (is_same a.minute b.minute h.same_minute)
-          (and_both r (t && (y && (d && e))) (is_upto b.rest a.rest h.rested)
-          (and_both t (y && (d && e)) (no_more_from a.today b.today h.today_no_more)
-          (and_both y (d && e) (no_more_from a.yesterday b.yesterday h.yesterday_no_more) (and_both d e (may_defer_from a b h.may_defer) (ends_from a b h.ends))))))),
+          and_both w (m && (r && (t && (y && e)))) (subst (λ v. same_way a.way v ≡ true) h.same_way (way_itself a.way))
+          (and_both m (r && (t && (y && e))) (is_same a.minute b.minute h.same_minute)
+          (and_both r (t && (y && e)) (is_upto b.rest a.rest h.rested)
+          (and_both t (y && e) (no_more_from a.today b.today h.today_no_more)
+          (and_both y e (yesterday_from a b h.yesterday) (ends_from a b h.ends)))))),
     )
 
 sums_mean : (n : ℕ) (a b : List ℕ) → sums_within n a b ≡ true → (k : ℕ) → k ≤ n → first_days k a ≤ first_days k b

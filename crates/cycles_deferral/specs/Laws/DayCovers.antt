@@ -11,11 +11,14 @@ use Rattle.duty_core.specs.declared.limits.TheConstants.{DAY_MINUTES, CA_BLOCK_L
 use Rattle.duty_core.specs.Activity.{rests}
 use Rattle.cycles_deferral.specs.declared.days.DayCount.{DayCount}
 use Rattle.cycles_deferral.specs.declared.days.CanadaDays.{CanadaDays}
-use Rattle.cycles_deferral.specs.DayMachine.{days_turned, days_begun, rest_on, days_rested, days_worked, keeps_split, keeps_defer, keeps_way, keeps_days, mark_between, days_after}
+use Rattle.cycles_deferral.specs.DayMachine.{days_turned, days_begun, rest_on, days_rested, worked_day, days_worked, keeps_split, keeps_defer, keeps_way, keeps_days, mark_between, days_after}
 use Rattle.cycles_deferral.specs.Laws.DeferLaws.{passes_means, passes_from}
-use Rattle.cycles_deferral.specs.DayCovers.{LosesNoMore, DaysCover, CoversOn}
+use Rattle.cycles_deferral.specs.DayCovers.{LosesNoMore, YesterdayCovers, DaysCover, CoversOn}
 
 -- # An order
+
+no_more_self : (a : DayCount) → LosesNoMore a a
+no_more_self a = record { at_rest = omega arith; at_duty = omega arith }
 
 pub days_cover_self : (a : CanadaDays) → DaysCover a a
 days_cover_self a = record {
@@ -23,9 +26,8 @@ days_cover_self a = record {
   same_minute = refl;
   rested = omega arith;
   today_no_more = record { at_rest = omega arith; at_duty = omega arith };
-  yesterday_no_more = record { at_rest = omega arith; at_duty = omega arith };
-  may_defer = inr (omega arith);
-  ends = inr (record { fewer = omega arith; longer = omega arith; reaches = λ e. e });
+  yesterday = inr (no_more_self a.yesterday, omega arith);
+  ends = inr (record { fewer = omega arith; yesterday = no_more_self a.yesterday; longer = omega arith; reaches = λ e. e });
 }
 
 no_more_over : (a b c : DayCount) → LosesNoMore a b → LosesNoMore b c → LosesNoMore a c
@@ -40,16 +42,17 @@ pub days_cover_over : (a b c : CanadaDays) → DaysCover a b → DaysCover b c �
 days_cover_over a b c h g =
     let x = h.rested in
     let y = g.rested in
-    let z = h.yesterday_no_more.at_duty in
     record {
       same_way = h.same_way ∙ g.same_way;
       same_minute = h.same_minute ∙ g.same_minute;
       rested = omega arith;
       today_no_more = no_more_over a.today b.today c.today h.today_no_more g.today_no_more;
-      yesterday_no_more = no_more_over a.yesterday b.yesterday c.yesterday h.yesterday_no_more g.yesterday_no_more;
-      may_defer = elim h.may_defer [
+      yesterday = elim h.yesterday [
         | inl l ↦ inl l
-        | inr l ↦ elim g.may_defer [ inl m ↦ inl (omega arith) | inr m ↦ inr (omega arith) ]
+        | inr l ↦ elim g.yesterday [
+          | inl m ↦ inl (let z = l.0.at_duty in omega arith)
+          | inr m ↦ inr (no_more_over a.yesterday b.yesterday c.yesterday l.0 m.0, (let p = l.1 in let q = m.1 in omega arith))
+        ]
       ];
       ends = elim h.ends [
         | inl l ↦ inl l
@@ -58,7 +61,15 @@ days_cover_over a b c h g =
             let o = l.longer in
             elim g.ends [
               | inl m ↦ inl (omega arith)
-              | inr m ↦ (let fm = m.fewer in let om = m.longer in inr (record { fewer = omega arith; longer = omega arith; reaches = λ e. l.reaches (m.reaches e) }))
+              | inr m ↦ (
+                  let fm = m.fewer in
+                  let om = m.longer in
+                  inr (record {
+                    fewer = omega arith;
+                    yesterday = no_more_over a.yesterday b.yesterday c.yesterday l.yesterday m.yesterday;
+                    longer = omega arith;
+                    reaches = λ e. l.reaches (m.reaches e);
+                  }))
             ])
       ];
     }
@@ -68,18 +79,20 @@ days_cover_over a b c h g =
 pub cover_turned : (a b : CanadaDays) → DaysCover a b → DaysCover (days_turned a) (days_turned b)
 cover_turned a b h =
     let r = h.rested in
-    let y = h.yesterday_no_more.at_rest in
-    let z = h.yesterday_no_more.at_duty in
     record {
       same_way = h.same_way;
       same_minute = refl;
       rested = h.rested;
       today_no_more = record { at_rest = omega arith; at_duty = omega arith };
-      yesterday_no_more = h.today_no_more;
-      may_defer = inr (omega arith);
-      ends = elim h.may_defer [
+      yesterday = inr (h.today_no_more, omega arith);
+      ends = elim h.yesterday [
         | inl l ↦ inl (omega arith)
-        | inr l ↦ inr (record { fewer = omega arith; longer = omega arith; reaches = λ e. let k : 0 < b.rest = grind (arith, nat_tests) in grind (arith, nat_tests) })
+        | inr l ↦ inr (record {
+          fewer = l.0.at_rest;
+          yesterday = h.today_no_more;
+          longer = l.1;
+          reaches = λ e. let k : 0 < b.rest = grind (arith, nat_tests) in grind (arith, nat_tests);
+        })
       ];
     }
 
@@ -138,69 +151,76 @@ cover_rested a b h =
     let r = h.rested in
     let m = h.same_minute in
     let l : rest_on b.rest ≤ rest_on a.rest = omega arith in
-    let z = h.yesterday_no_more.at_duty in
     let s = short_most (rest_on a.rest) 0 a.yesterday in
+    let no_more : LosesNoMore a.yesterday b.yesterday → LosesNoMore (days_rested a).yesterday (days_rested b).yesterday = λ k.
+    record { at_rest = k.at_rest; at_duty = no_more_rested (rest_on a.rest) (rest_on b.rest) 0 a.yesterday b.yesterday l k } in
     record {
       same_way = h.same_way;
       same_minute = omega arith;
       rested = l;
       today_no_more = record { at_rest = h.today_no_more.at_rest; at_duty = no_more_rested (rest_on a.rest) (rest_on b.rest) 1 a.today b.today l h.today_no_more };
-      yesterday_no_more = record { at_rest = h.yesterday_no_more.at_rest; at_duty = no_more_rested (rest_on a.rest) (rest_on b.rest) 0 a.yesterday b.yesterday l h.yesterday_no_more };
-      may_defer = elim h.may_defer [
+      yesterday = elim h.yesterday [
         | inl k ↦ inl (omega arith)
-        | inr k ↦ inr (longest_more true true a.today.longest b.today.longest (rest_on a.rest) (rest_on b.rest) (λ e. e) k l)
+        | inr k ↦ inr (no_more k.0, longest_more true true a.today.longest b.today.longest (rest_on a.rest) (rest_on b.rest) (λ e. e) k.1 l)
       ];
       ends = elim h.ends [
         | inl k ↦ inl k
-        | inr k ↦ inr (record { fewer = k.fewer; longer = longest_more a.reaches b.reaches a.yesterday.longest b.yesterday.longest (rest_on a.rest) (rest_on b.rest) k.reaches k.longer l; reaches = k.reaches })
+        | inr k ↦ inr (record {
+          fewer = k.fewer;
+          yesterday = no_more k.yesterday;
+          longer = longest_more a.reaches b.reaches a.yesterday.longest b.yesterday.longest (rest_on a.rest) (rest_on b.rest) k.reaches k.longer l;
+          reaches = k.reaches;
+        })
       ];
     }
 
 -- # Duty
 
+no_more_worked : (n : ℕ) (a b : DayCount) → LosesNoMore a b → LosesNoMore (worked_day n a) (worked_day n b)
+no_more_worked n a b h = let d = h.at_duty in record { at_rest = omega arith; at_duty = omega arith }
+
 pub cover_worked : (a b : CanadaDays) → DaysCover a b → DaysCover (days_worked a) (days_worked b)
 cover_worked a b h =
     let m = h.same_minute in
     let t = h.today_no_more.at_duty in
-    let y = h.yesterday_no_more.at_duty in
     record {
       same_way = h.same_way;
       same_minute = omega arith;
       rested = omega arith;
-      today_no_more = record { at_rest = omega arith; at_duty = omega arith };
-      yesterday_no_more = record { at_rest = omega arith; at_duty = omega arith };
-      may_defer = elim h.may_defer [ inl l ↦ inl (omega arith) | inr l ↦ inr l ];
-      ends = elim h.ends [ inl l ↦ inl l | inr l ↦ inr (record { fewer = l.fewer; longer = l.longer; reaches = λ e. e }) ];
+      today_no_more = no_more_worked 1 a.today b.today h.today_no_more;
+      yesterday = elim h.yesterday [ inl l ↦ inl (omega arith) | inr l ↦ inr (no_more_worked 0 a.yesterday b.yesterday l.0, l.1) ];
+      ends = elim h.ends [
+        | inl l ↦ inl l
+        | inr l ↦ inr (record { fewer = l.fewer; yesterday = no_more_worked 0 a.yesterday b.yesterday l.yesterday; longer = l.longer; reaches = λ e. e })
+      ];
     }
 
 keeps_same : (a b : CanadaDays) → DaysCover a b → b.today.short ≡ 0 → b.yesterday.short ≡ 0 → a.yesterday.short ≡ 0 → keeps_defer b ≡ true → keeps_defer a ≡ true
 keeps_same a b h s0 s1 s2 e =
     let p = passes_means b e in
     let t = h.today_no_more.at_rest in
-    let y = h.yesterday_no_more.at_rest in
     let m = p.today_most in
     passes_from a (record {
-      before_both = λ l. elim h.ends [ inl k ↦ absurd (omega arith) | inr k ↦ (let f = k.fewer in let q = p.before_both (omega arith) in omega arith) ];
+      before_both = λ l. elim h.ends [ inl k ↦ absurd (omega arith) | inr k ↦ (let f = k.fewer in let y = k.yesterday.at_rest in let q = p.before_both (omega arith) in omega arith) ];
       before_rest = λ l. elim h.ends [ inl k ↦ absurd (omega arith) | inr k ↦ (let f = k.fewer in let o = k.longer in let q = p.before_rest (omega arith) in omega arith) ];
-      most = λ l. let q = p.most (omega arith) in omega arith;
-      both = λ l. let q = p.both (omega arith) in omega arith;
+      most = λ l. elim h.yesterday [ inl k ↦ absurd (omega arith) | inr k ↦ (let y = k.0.at_rest in let q = p.most (omega arith) in omega arith) ];
+      both = λ l. elim h.yesterday [ inl k ↦ absurd (omega arith) | inr k ↦ (let y = k.0.at_rest in let q = p.both (omega arith) in omega arith) ];
       rest = λ over l.
           let f : nat_lt b.minute DAY_MINUTES ≡ false = ap (λ n. nat_lt n DAY_MINUTES) (sym h.same_minute) ∙ over in
-          let q = p.rest f (omega arith) in
-          elim h.may_defer [ inl k ↦ absurd (omega arith) | inr k ↦ omega arith ];
+          elim h.yesterday [ inl k ↦ absurd (omega arith) | inr k ↦ (let y = k.0.at_rest in let z = k.1 in let q = p.rest f (omega arith) in omega arith) ];
       today_most = omega arith;
     })
 
-keeps_split_same : (a b : CanadaDays) → a.yesterday.lost ≤ b.yesterday.lost → a.today.lost ≤ b.today.lost → keeps_split b ≡ true → keeps_split a ≡ true
+keeps_split_same : (a b : CanadaDays) → YesterdayCovers a b → a.today.lost ≤ b.today.lost → keeps_split b ≡ true → keeps_split a ≡ true
 keeps_split_same a b y t e =
     let p : b.yesterday.lost ≤ CA_LOST_LIMIT = grind (arith, nat_tests) in
     let q : b.today.lost ≤ CA_LOST_LIMIT = grind (arith, nat_tests) in
-    let r : a.yesterday.lost ≤ CA_LOST_LIMIT = omega arith in
+    let r : a.yesterday.lost ≤ CA_LOST_LIMIT = elim y [ inl k ↦ omega arith | inr k ↦ (let n = k.0.at_rest in omega arith) ] in
     let s : a.today.lost ≤ CA_LOST_LIMIT = omega arith in
     grind (arith, nat_tests)
 
 keeps_way_same : (way : RestWay) (a b : CanadaDays) → DaysCover (days_worked a) (days_worked b) → keeps_way way (days_worked b) ≡ true → keeps_way way (days_worked a) ≡ true
-keeps_way_same Split a b h e = keeps_split_same (days_worked a) (days_worked b) h.yesterday_no_more.at_rest h.today_no_more.at_rest e
+keeps_way_same Split a b h e = keeps_split_same (days_worked a) (days_worked b) h.yesterday h.today_no_more.at_rest e
 keeps_way_same Defer a b h e = keeps_same (days_worked a) (days_worked b) h refl refl refl e
 
 keeps_covered : (a b : CanadaDays) → DaysCover a b → keeps_days (days_worked b) ≡ true → keeps_days (days_worked a) ≡ true
@@ -267,14 +287,14 @@ unfolding short_at longest_at
 rested_covers_worked s =
     let a = short_most (rest_on s.rest) 1 s.today in
     let b = short_most (rest_on s.rest) 0 s.yesterday in
+    let no_more : LosesNoMore (days_rested s).yesterday (days_worked s).yesterday = record { at_rest = omega arith; at_duty = omega arith } in
     record {
       same_way = refl;
       same_minute = refl;
       rested = omega arith;
       today_no_more = record { at_rest = omega arith; at_duty = omega arith };
-      yesterday_no_more = record { at_rest = omega arith; at_duty = omega arith };
-      may_defer = inr (longest_least true s.today.longest (rest_on s.rest));
-      ends = inr (record { fewer = omega arith; longer = longest_least s.reaches s.yesterday.longest (rest_on s.rest); reaches = λ e. absurd (let z : false ≡ true = e in cc) });
+      yesterday = inr (no_more, longest_least true s.today.longest (rest_on s.rest));
+      ends = inr (record { fewer = omega arith; yesterday = no_more; longer = longest_least s.reaches s.yesterday.longest (rest_on s.rest); reaches = λ e. absurd (let z : false ≡ true = e in cc) });
     }
 
 -- What any activity leads to, rest may stand for.
