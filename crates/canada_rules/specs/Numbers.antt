@@ -1,17 +1,11 @@
 -- The numbers by which a state is written down, and which numbers are those of a state.
-use Rattle.std.specs.Prelude.{ℕ, ◌+◌, Bool, true, cond, List, [], ◌∷◌, length, drop, Option, None, Some, nat_eq, nat_lt, nat_le, ◌&&◌, ◌||◌, not, if◌then◌else◌, slice_index_or}
-use Rattle.duty_core.specs.declared.limits.TheConstants.{DAY_MINUTES, COUNT_LIMIT, CA_BLOCK_LEAST, CA_CYCLE_2}
+use Rattle.std.specs.Prelude.{ℕ, ◌+◌, Bool, cond, List, ◌∷◌, ◌++◌, length, drop, Option, None, Some, nat_eq, nat_lt, nat_le, ◌&&◌, ◌||◌, not, if◌then◌else◌}
+use Rattle.duty_core.specs.declared.limits.TheConstants.{DAY_MINUTES, CA_BLOCK_LEAST, CA_CYCLE_2}
 use Rattle.duty_core.specs.declared.params.RestWay.{RestWay}
 use Rattle.duty_core.specs.CaCycle.{cycle_days, cycle_reset}
-use Rattle.day_sums.specs.Sums.{today}
-use Rattle.sleeper_split.specs.declared.rule.SplitRule.{SplitRule}
+use Rattle.day_sums.specs.Sums.{today, are_within}
 use Rattle.sleeper_split.specs.declared.rule.TheConstants.SplitRule.{CANADA}
-use Rattle.sleeper_split.specs.declared.count.Used.{Used}
-use Rattle.sleeper_split.specs.declared.count.OpenRun.{OpenRun}
-use Rattle.sleeper_split.specs.declared.count.WaitingRest.{WaitingRest}
-use Rattle.sleeper_split.specs.declared.count.SplitCount.{SplitCount}
-use Rattle.sleeper_split.specs.Machine.{made}
-use Rattle.sleeper_split.specs.Covers.{is_within, waits_none}
+use Rattle.sleeper_split.specs.Numbers.{split_numbers, item, split_of, is_count}
 use Rattle.cycles_deferral.specs.declared.days.TheConstants.{NEEDED_LIMIT}
 use Rattle.cycles_deferral.specs.declared.days.DayCount.{DayCount}
 use Rattle.cycles_deferral.specs.declared.days.CanadaDays.{CanadaDays}
@@ -26,46 +20,21 @@ use Rattle.canada_rules.specs.Machine.{day_made, calendar_made, ca_made, day_so_
 
 -- # The numbers
 
--- a split rest that waits as two numbers, and two zeros where none waits
-abbrev pub waiting_long : Option WaitingRest → ℕ
-waiting_long None = 0
-waiting_long (Some w) = w.long
-
-abbrev pub waiting_berth : Option WaitingRest → ℕ
-waiting_berth None = 0
-waiting_berth (Some w) = w.berth
-
-abbrev pub waiting_of : ℕ → ℕ → Option WaitingRest
-waiting_of long berth = if nat_eq long 0 && nat_eq berth 0 then None else Some (record { long = long; berth = berth })
-
 -- a flag as a number
 abbrev pub flag : Bool → ℕ
 flag b = cond b 1 0
 
--- The run in progress, the counts since the base and since the last rest, the rest that waits, the day, the days and their deferral, the cycle, and the duty of each day from the youngest on.
+-- The numbers of the counts of split rests, the day, the days and their deferral, the cycle, and the duty of each day from the youngest on.
 abbrev pub ca_numbers : CanadaState → List ℕ
 ca_numbers s =
-    s.split.run.long ∷ s.split.run.stretch ∷ s.split.run.longest
-    ∷ s.split.base.driving ∷ s.split.base.duty ∷ s.split.base.elapsed
-    ∷ s.split.last.driving ∷ s.split.last.duty ∷ s.split.last.elapsed
-    ∷ waiting_long s.split.waiting ∷ waiting_berth s.split.waiting
-    ∷ s.calendar.day.driving ∷ s.calendar.day.duty
+    split_numbers s.split
+    ++ s.calendar.day.driving ∷ s.calendar.day.duty
     ∷ s.calendar.days.minute ∷ s.calendar.days.rest
     ∷ s.calendar.days.today.lost ∷ s.calendar.days.today.short ∷ s.calendar.days.today.longest
     ∷ s.calendar.days.yesterday.lost ∷ s.calendar.days.yesterday.short ∷ s.calendar.days.yesterday.longest
     ∷ s.calendar.days.before ∷ flag s.calendar.days.reaches
     ∷ s.calendar.cycle.rest ∷ s.calendar.cycle.since ∷ s.calendar.cycle.without
     ∷ s.calendar.cycle.sums
-
-abbrev pub item : List ℕ → ℕ → ℕ
-item ns i = slice_index_or ns i 0
-
-abbrev pub split_of : List ℕ → SplitCount
-split_of ns = made
-    (record { long = item ns 0; stretch = item ns 1; longest = item ns 2 })
-    (record { driving = item ns 3; duty = item ns 4; elapsed = item ns 5 })
-    (record { driving = item ns 6; duty = item ns 7; elapsed = item ns 8 })
-    (waiting_of (item ns 9) (item ns 10))
 
 abbrev pub days_of : RestWay → List ℕ → CanadaDays
 days_of way ns = days_made way (item ns 13) (item ns 14)
@@ -80,31 +49,6 @@ abbrev pub state_by : RestWay → ℕ → List ℕ → CanadaState
 state_by way cycle ns = ca_made (split_of ns) (calendar_made (day_made (item ns 11) (item ns 12)) (days_of way ns) (cycle_of cycle ns))
 
 -- # What a state is, as a test
-
-abbrev pub is_used : Used → Bool
-is_used u = nat_le u.driving u.duty && (nat_le u.duty COUNT_LIMIT && nat_le u.elapsed COUNT_LIMIT)
-
-abbrev pub is_open_run : OpenRun → Bool
-is_open_run r = nat_le r.stretch r.longest && (nat_le r.longest r.long && nat_le r.long COUNT_LIMIT)
-
-abbrev pub is_waiting_rest : Option WaitingRest → Bool
-is_waiting_rest None = true
-is_waiting_rest (Some w) = nat_le w.berth w.long && nat_le w.long COUNT_LIMIT
-
-abbrev pub same_used : Used → Used → Bool
-same_used u v = nat_eq u.driving v.driving && (nat_eq u.duty v.duty && nat_eq u.elapsed v.elapsed)
-
-abbrev pub is_split_count : SplitCount → Bool
-is_split_count s =
-    is_open_run s.run && (is_used s.base && (is_used s.last && (is_within s.last s.base && (nat_le s.run.long s.last.elapsed
-    && (is_waiting_rest s.waiting && (not (waits_none s.waiting) || same_used s.base s.last))))))
-
-abbrev pub waits_well : SplitRule → Bool → Option WaitingRest → Bool
-waits_well rule may None = true
-waits_well rule may (Some w) = may && (nat_le rule.least w.long && (nat_le w.long rule.full && not (nat_eq w.long rule.full)))
-
-abbrev pub is_count : Bool → SplitCount → Bool
-is_count may s = is_split_count s && waits_well CANADA may s.waiting
 
 abbrev pub is_day_count : ℕ → DayCount → Bool
 is_day_count limit c = nat_le c.lost limit && nat_le c.longest NEEDED_LIMIT
@@ -122,10 +66,6 @@ is_days s =
 -- the days with these numbers, of which a flag is 0 or 1
 abbrev pub are_days : RestWay → List ℕ → Bool
 are_days way ns = is_days (days_of way ns) && nat_le (item ns 22) 1
-
-abbrev pub are_within : List ℕ → Bool
-are_within [] = true
-are_within (x ∷ xs) = nat_le x DAY_MINUTES && are_within xs
 
 abbrev pub is_cycle_count : CycleCount → Bool
 is_cycle_count s =
@@ -145,7 +85,7 @@ fits_day so_far c = nat_le c.day.driving c.day.duty && (nat_le c.day.duty so_far
 
 abbrev pub are_numbers : Bool → RestWay → ℕ → ℕ → List ℕ → ℕ → Bool
 are_numbers may way cycle start ns at =
-    nat_le COUNTS (length ns) && (is_count may (split_of ns) && (are_days way ns && (is_cycle (cycle_of cycle ns)
+    nat_le COUNTS (length ns) && (is_count CANADA may (split_of ns) && (are_days way ns && (is_cycle (cycle_of cycle ns)
     && fits_day (day_so_far start at) (state_by way cycle ns).calendar)))
 
 -- the state that has these numbers at this minute

@@ -13,7 +13,7 @@ ghost use Rattle.canada_rules.specs.Book.{ca_book};
 ghost use Rattle.canada_rules.specs.Laws.BookLaws.{ca_laws};
 
 use crate::ends::{Ends, split_run};
-use crate::numbers::{COUNTS, cycle_by, days_by, item, split_by};
+use crate::numbers::{COUNTS, cycle_by, days_by};
 use crate::state::{Calendar, CanadaState, DayDuty};
 use cycles_deferral::{CanadaDays, CycleCount};
 use duty_core::{
@@ -290,12 +290,12 @@ impl CanadaBook {
         if numbers.len() < COUNTS {
             return None;
         }
-        let split = split_by(numbers, self.may_split())?;
+        let split = SplitCount::of_numbers(numbers, SplitRule::CANADA, self.may_split())?;
         let days = days_by(numbers, self.way)?;
         let cycle = cycle_by(numbers, self.cycle)?;
         let day = DayDuty {
-            driving: item(numbers, 11),
-            duty: item(numbers, 12),
+            driving: numbers[11],
+            duty: numbers[12],
         };
         let calendar = Calendar { day, days, cycle };
         fits_day(&calendar, self.day_so_far(at)).then_some(CanadaState { split, calendar })
@@ -420,14 +420,11 @@ impl RuleBook for CanadaBook {
         _at: Minute,
         out: &mut Numbers,
     ) -> Result<(), NoMemory> {
-        let before = out.items().len();
-        out.extend(&state.counts())?;
-        let sums = state.calendar.cycle.sums();
-        if let Err(fault) = out.extend(sums.sums()) {
-            out.truncate(before);
-            return Err(fault);
-        }
-        Ok(())
+        out.extend_parts(
+            &state.split.numbers(),
+            &state.counts(),
+            state.calendar.cycle.sums().sums(),
+        )
     }
 
     fn read_state(&self, numbers: &[u32], at: Minute) -> Result<Option<CanadaState>, NoMemory> {

@@ -33,6 +33,11 @@ abbrev pub leaves_no_less : ℕ → ℕ → List ℕ → List ℕ → Bool
 leaves_no_less limit zero xs ys = true
 leaves_no_less limit (suc n) xs ys = nat_le (limit - first_days (suc n) ys) (limit - first_days (suc n) xs) && leaves_no_less limit n xs ys
 
+-- each day holds at most its minutes, as a test
+abbrev pub are_within : List ℕ → Bool
+are_within [] = true
+are_within (x ∷ xs) = nat_le x DAY_MINUTES && are_within xs
+
 -- so many days, each of which holds at most its minutes
 pub record AreSums (sums : List ℕ) : Type 0 where
   pub days : IsDays (length sums)

@@ -54,6 +54,35 @@ impl Numbers {
         Ok(())
     }
 
+    /// These numbers after the others, in three parts. Where there is no memory for all of them, the
+    /// others stay as they were.
+    pub fn extend_parts(
+        &mut self,
+        first: &[u32],
+        second: &[u32],
+        third: &[u32],
+    ) -> Result<(), NoMemory>
+        ensures ok { OnOk result (self.new ≡ self.old ++ first.now ++ second.now ++ third.now) }
+        ensures err { OnErr result (self.new ≡ self.old) }
+    {
+        let before = self.numbers.len();
+        let put = self.put_parts(first, second, third);
+        if put.is_err() {
+            self.truncate(before);
+        }
+        put
+    }
+
+    /// The three parts after the others, as far as there is memory for them.
+    fn put_parts(&mut self, first: &[u32], second: &[u32], third: &[u32]) -> Result<(), NoMemory>
+        ensures ok { OnOk result (self.new ≡ self.old ++ first.now ++ second.now ++ third.now) }
+        ensures err { OnErr result (take (length self.old) self.new ≡ self.old) }
+    {
+        self.extend(first)?;
+        self.extend(second)?;
+        self.extend(third)
+    }
+
     /// Leaves the first `n` numbers alone.
     pub fn truncate(&mut self, n: usize)
         ensures { self.new ≡ take n self.old }

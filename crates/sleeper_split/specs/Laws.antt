@@ -9,6 +9,7 @@ pub mod ExactLaws
 pub mod CountryLaws
 pub mod CoverLaws
 pub mod CoverTests
+pub mod NumberLaws
 pub mod BetterLaws
 pub mod Runs
 pub mod MarkedTracks

@@ -6,4 +6,5 @@ pub mod Ways
 pub mod Promises
 pub mod Covers
 pub mod Runs
+pub mod Numbers
 pub mod Laws

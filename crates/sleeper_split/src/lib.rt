@@ -5,6 +5,7 @@
 mod count;
 mod covers;
 mod laws;
+mod numbers;
 mod rule;
 #[cfg(test)]
 mod tests;
@@ -14,4 +15,5 @@ pub use laws::{
     is_exact_in_canada, is_exact_in_united_states, is_told_by_places, rests_safely,
     stands_for_plainly_worse, stands_in_order, stands_on, tells_of_history,
 };
+pub use numbers::SPLIT_NUMBERS;
 pub use rule::{BerthRule, SplitRule};

@@ -17,7 +17,7 @@ ghost use Rattle.us_rules.specs.Book.{us_book};
 ghost use Rattle.us_rules.specs.Laws.BookLaws.{us_laws};
 
 use crate::ends::Ends;
-use crate::numbers::{COUNTS, item, split_by};
+use crate::numbers::COUNTS;
 use crate::state::{BreakCount, UsState, WeekCount};
 use day_sums::DaySums;
 use duty_core::{
@@ -309,14 +309,14 @@ impl UsBook {
         if numbers.len() != COUNTS + usize::from(self.days) {
             return None;
         }
-        let split = split_by(numbers, self.berth)?;
+        let split = SplitCount::of_numbers(numbers, SplitRule::US, self.berth)?;
         let sums = DaySums::of_sums(&numbers[COUNTS..])?;
         let rest_break = BreakCount {
-            still: item(numbers, 11),
-            driven: item(numbers, 12),
+            still: numbers[11],
+            driven: numbers[12],
         };
         let week = WeekCount {
-            rest: item(numbers, 13),
+            rest: numbers[13],
             sums,
         };
         self.holds(rest_break, &week, at).then_some(UsState {
@@ -431,13 +431,11 @@ impl RuleBook for UsBook {
     }
 
     fn write_state(&self, state: &UsState, _at: Minute, out: &mut Numbers) -> Result<(), NoMemory> {
-        let before = out.items().len();
-        out.extend(&state.counts())?;
-        if let Err(fault) = out.extend(state.week.sums.sums()) {
-            out.truncate(before);
-            return Err(fault);
-        }
-        Ok(())
+        out.extend_parts(
+            &state.split.numbers(),
+            &state.counts(),
+            state.week.sums.sums(),
+        )
     }
 
     fn read_state(&self, numbers: &[u32], at: Minute) -> Result<Option<UsState>, NoMemory> {
