@@ -22,7 +22,7 @@ use Rattle.driver_cli.specs.Ends.{Told, UsageEnds, AuditEnds, GraphEnds, CheckEn
 use Rattle.driver_cli.specs.Inputs.{InputsLeave, LawfulAnswers}
 use Rattle.driver_cli.specs.Make.{MakeAnswers, MakeLeaves}
 use Rattle.driver_cli.specs.Sent.{IsSent, IsUnsent, Sent}
-use Rattle.driver_cli.specs.Sides.{ReadSide, WriteSide, SinkSide, IsUnfailed, IsKept, HasPut, HavePut, IsUnput, IsUnputBehind, PutsOtherTwo}
+use Rattle.driver_cli.specs.Sides.{ReadSide, WriteSide, SinkSide, IsUnfailed, IsKept, HasPut, HavePut, IsUnputBehind, PutsOtherTwo}
 use Rattle.driver_cli.specs.Steps.{CommandAnswers, CommandLeaves, WordsAnswers, WordsLeave}
 use Rattle.driver_cli.proofs.Stages.{audit_stage, graph_stage, check_stage, plan_stage}
 use Rattle.driver_cli.proofs.Exactly.{audit_exact, audit_complete, graph_exact, graph_complete, check_exact, check_complete, plan_exact, plan_complete}
@@ -32,16 +32,9 @@ use Rattle.driver_cli.proofs.Making.{make_stage, make_exact, make_complete}
 
 module _ (answers : Status → Bytes → Type 0) (left : Type 0) (s : SinkSide) (text : Bytes) where
   whole : (status : Status) → (answers Memory text → ⊥) → answers status text → IsSent s text → Told answers left s status
-  whole Done m p sent = (text, p, sent)
-  whole Usage m p sent = (text, p, sent)
-  whole Refused m p sent = (text, p, sent)
-  whole Infeasible m p sent = (text, p, sent)
-  whole LogUnlawful m p sent = (text, p, sent)
-  whole Spent m p sent = (text, p, sent)
-  whole ReadFault m p sent = (text, p, sent)
-  whole Rejected m p sent = (text, p, sent)
   whole WriteFault m p sent = inl (text, p, sent)
   whole Memory m p sent = absurd (m p)
+  whole status m p sent = (text, p, sent)
 
   told : (status ended : Status) → (answers Memory text → ⊥) → (answers status text → left) → answers status text → Sent status text s ended → Told answers left s ended
   told status ended m leaves p (inl h) = rw h.0 (whole status m p h.1)
@@ -57,50 +50,23 @@ module _ (t l : Bytes) (r : ReadSide) where
   lawful_leaves ReadFault text (inl h) = inr (inl h.unread)
   lawful_leaves ReadFault text (inr h) = inr (inr h.unread)
   lawful_leaves LogUnlawful text h = inl h.read.unfailed
-  lawful_leaves Done text h = absurd h
-  lawful_leaves Usage text h = absurd h
-  lawful_leaves Infeasible text h = absurd h
-  lawful_leaves Spent text h = absurd h
-  lawful_leaves WriteFault text h = absurd h
-  lawful_leaves Memory text h = absurd h
-  lawful_leaves Rejected text h = absurd h
+  lawful_leaves status text h = absurd h
 
   audit_leaves : (status : Status) (text : Bytes) → AuditAnswers t l r status text → InputsLeave t l r
   audit_leaves Done text h = inl h.lawful.read.unfailed
-  audit_leaves Refused text h = lawful_leaves Refused text h
-  audit_leaves ReadFault text h = lawful_leaves ReadFault text h
-  audit_leaves LogUnlawful text h = lawful_leaves LogUnlawful text h
-  audit_leaves Usage text h = absurd h
-  audit_leaves Infeasible text h = absurd h
-  audit_leaves Spent text h = absurd h
-  audit_leaves WriteFault text h = absurd h
-  audit_leaves Memory text h = absurd h
-  audit_leaves Rejected text h = absurd h
+  audit_leaves status text h = lawful_leaves status text h
 
   graph_leaves : (status : Status) (text : Bytes) → GraphAnswers t l r status text → InputsLeave t l r
   graph_leaves Done text h = inl h.read.unfailed
-  graph_leaves Refused text h = lawful_leaves Refused text h
-  graph_leaves ReadFault text h = lawful_leaves ReadFault text h
   graph_leaves LogUnlawful text h = absurd h
-  graph_leaves Usage text h = absurd h
-  graph_leaves Infeasible text h = absurd h
-  graph_leaves Spent text h = absurd h
-  graph_leaves WriteFault text h = absurd h
-  graph_leaves Memory text h = absurd h
-  graph_leaves Rejected text h = absurd h
+  graph_leaves status text h = lawful_leaves status text h
 
   check_leaves : (c : Bytes) (status : Status) (text : Bytes) → CheckAnswers t l c r status text → CheckLeaves t l c r
   check_leaves c Done text h = inl (inl h.lawful.read.unfailed)
   check_leaves c Rejected text h = inl (inl h.lawful.read.unfailed)
   check_leaves c ReadFault text (inl h) = inl (lawful_leaves ReadFault text h)
   check_leaves c ReadFault text (inr h) = inr h.unread
-  check_leaves c Refused text h = inl (lawful_leaves Refused text h)
-  check_leaves c LogUnlawful text h = inl (lawful_leaves LogUnlawful text h)
-  check_leaves c Usage text h = absurd h
-  check_leaves c Infeasible text h = absurd h
-  check_leaves c Spent text h = absurd h
-  check_leaves c WriteFault text h = absurd h
-  check_leaves c Memory text h = absurd h
+  check_leaves c status text h = inl (lawful_leaves status text h)
 
 -- ---- files of other names
 
@@ -140,12 +106,7 @@ module _ (t l c : Bytes) (budget : ℕ) (r : ReadSide) (w : WriteSide) where
   plan_leaves Infeasible text h = (inl h.lawful.read.unfailed, inr (inl record { tour = h.tour; log = h.log; lawful = h.lawful; bytes = h.bytes; proof = (h.proof.cert, h.proof.acceptable); put = h.put }))
   plan_leaves WriteFault text h = (inl h.lawful.read.unfailed, inr (inr h.unput))
   plan_leaves Spent text h = (inl h.1.lawful.read.unfailed, inl h.0)
-  plan_leaves Refused text h = (lawful_leaves t l r Refused text h.1, inl h.0)
-  plan_leaves LogUnlawful text h = (lawful_leaves t l r LogUnlawful text h.1, inl h.0)
-  plan_leaves ReadFault text h = (lawful_leaves t l r ReadFault text h.1, inl h.0)
-  plan_leaves Usage text h = absurd h.1
-  plan_leaves Rejected text h = absurd h.1
-  plan_leaves Memory text h = absurd h.1
+  plan_leaves status text h = (lawful_leaves t l r status text h.1, inl h.0)
 
 -- ---- two files that are put
 
@@ -184,12 +145,7 @@ module _ (w : WriteSide) (t l : Bytes) where
   make_leaves number Spent text h = inr (inr (inl h.put))
   make_leaves number WriteFault text (inl h) = inr (inr (inr (inl h.0)))
   make_leaves number WriteFault text (inr h) = inr (inr (inr (inr h.0)))
-  make_leaves number Usage text h = absurd h
-  make_leaves number Refused text h = absurd h
-  make_leaves number LogUnlawful text h = absurd h
-  make_leaves number ReadFault text h = absurd h
-  make_leaves number Memory text h = absurd h
-  make_leaves number Rejected text h = absurd h
+  make_leaves number status text h = absurd h
 
 -- ---- where nothing fails outside
 
@@ -302,13 +258,7 @@ usage_is : (s : SinkSide) (status : Status) → Told UsageAnswers ⊤ s status �
 usage_is s Usage e = inl refl
 usage_is s WriteFault e = inr (inl refl)
 usage_is s Memory e = inr (inr (inl refl))
-usage_is s Done e = absurd e.1
-usage_is s Refused e = absurd e.1
-usage_is s Infeasible e = absurd e.1
-usage_is s LogUnlawful e = absurd e.1
-usage_is s Spent e = absurd e.1
-usage_is s ReadFault e = absurd e.1
-usage_is s Rejected e = absurd e.1
+usage_is s status e = absurd e.1
 
 usage_ends : (r : ReadSide) (w : WriteSide) (s : SinkSide) (status : Status) → IsUnfailed r → IsKept w → Told UsageAnswers ⊤ s status → UsageEnds r w s status
 usage_ends r w s status unfailed kept e = record { unfailed = unfailed; kept = kept; told = e; exact = usage_is s status e }

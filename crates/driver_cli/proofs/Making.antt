@@ -10,7 +10,7 @@ use Rattle.made_tours.specs.Drawn.{IsMade}
 use Rattle.tour_plan.specs.Planned.{HasAsMany}
 use Rattle.command_words.specs.declared.command.TheConstants.{BUDGET}
 use Rattle.driver_cli.specs.declared.answer.Status.{Status}
-use Rattle.driver_cli.specs.declared.answer.Status.TheVariants.{Done, Usage, Refused, Infeasible, LogUnlawful, Spent, ReadFault, WriteFault, Memory, Rejected}
+use Rattle.driver_cli.specs.declared.answer.Status.TheVariants.{Done, Infeasible, Spent, WriteFault, Memory}
 use Rattle.driver_cli.specs.Ends.{Told}
 use Rattle.driver_cli.specs.Make.{MakeAnswers, MakeLeaves, MakeExact, MakeComplete}
 use Rattle.driver_cli.specs.Sides.{WriteSide, SinkSide}
@@ -33,11 +33,7 @@ make_stage number t l w s Infeasible e = let h = e.1 in inr (record { tour = h.t
 make_stage number t l w s Spent e = let h = e.1 in inr (record { tour = h.tour; log = h.log; made = h.made; holds = inr (inr (refl, h.told.spent.many)) })
 make_stage number t l w s WriteFault e = inl (inl refl)
 make_stage number t l w s Memory e = inl (inr (inl refl))
-make_stage number t l w s Usage e = absurd e.1
-make_stage number t l w s Refused e = absurd e.1
-make_stage number t l w s LogUnlawful e = absurd e.1
-make_stage number t l w s ReadFault e = absurd e.1
-make_stage number t l w s Rejected e = absurd e.1
+make_stage number t l w s status e = absurd e.1
 
 -- ---- one number makes one tour and one log
 

@@ -11,7 +11,7 @@ use Rattle.tour_reader.specs.declared.fault.TourFault.{TourFault}
 use Rattle.duty_log.specs.declared.fault.LogFault.{LogFault}
 use Rattle.tour_plan.specs.Planned.{IsLawfulLog, HasAsMany}
 use Rattle.driver_cli.specs.declared.answer.Status.{Status}
-use Rattle.driver_cli.specs.declared.answer.Status.TheVariants.{Done, Usage, Refused, Infeasible, LogUnlawful, Spent, ReadFault, WriteFault, Memory, Rejected}
+use Rattle.driver_cli.specs.declared.answer.Status.TheVariants.{Done, Refused, Infeasible, LogUnlawful, Spent, ReadFault, WriteFault, Memory, Rejected}
 use Rattle.driver_cli.specs.Given.{GivesTour, GivesLog, GivesCert}
 use Rattle.driver_cli.specs.Inputs.{AreGiven, InputAnswers, InputsLeave, LawfulAnswers}
 use Rattle.driver_cli.specs.Sides.{ReadSide, WriteSide, SinkSide}
@@ -69,55 +69,27 @@ input_stage : (t l : Bytes) (r : ReadSide) (thereafter : Tour → List Activity 
 input_stage t l r thereafter Refused text (inl h) = inr (inl (h.fault, h.given, refl))
 input_stage t l r thereafter Refused text (inr h) = inr (inr (inl (h.tour, h.fault, h.tour_given, h.given, refl)))
 input_stage t l r thereafter ReadFault text h = inl (inl refl)
-input_stage t l r thereafter LogUnlawful text h = absurd h
-input_stage t l r thereafter Done text h = absurd h
-input_stage t l r thereafter Usage text h = absurd h
-input_stage t l r thereafter Infeasible text h = absurd h
-input_stage t l r thereafter Spent text h = absurd h
-input_stage t l r thereafter WriteFault text h = absurd h
-input_stage t l r thereafter Memory text h = absurd h
-input_stage t l r thereafter Rejected text h = absurd h
+input_stage t l r thereafter status text h = absurd h
 
 pub graph_stage : (t l : Bytes) (r : ReadSide) (s : SinkSide) (status : Status) → Told (GraphAnswers t l r) (InputsLeave t l r) s status → Stage t l r GraphBehind status
 graph_stage t l r s Done e = inr (inr (inr (let h = e.1 in record { tour = h.tour; log = h.log; given = h.read.given; holds = refl })))
-graph_stage t l r s Refused e = input_stage t l r GraphBehind Refused e.0 e.1
-graph_stage t l r s ReadFault e = inl (inl refl)
 graph_stage t l r s WriteFault e = inl (inr (inl refl))
 graph_stage t l r s Memory e = inl (inr (inr (inl refl)))
-graph_stage t l r s LogUnlawful e = absurd e.1
-graph_stage t l r s Usage e = absurd e.1
-graph_stage t l r s Infeasible e = absurd e.1
-graph_stage t l r s Spent e = absurd e.1
-graph_stage t l r s Rejected e = absurd e.1
+graph_stage t l r s status e = input_stage t l r GraphBehind status e.0 e.1
 
 -- after a lawful log
 lawful_after : (t l : Bytes) (r : ReadSide) (thereafter : Tour → List Activity → Status → Type 0) (status : Status) (tour : Tour) (log : List Activity) → AreGiven t l r tour log → IsLawfulLog tour log → thereafter tour log status → Stage t l r (Judged thereafter) status
 lawful_after t l r thereafter status tour log given lawful holds = inr (inr (inr (record { tour = tour; log = log; given = given; holds = inr (lawful, holds) })))
 
 lawful_stage : (t l : Bytes) (r : ReadSide) (thereafter : Tour → List Activity → Status → Type 0) (status : Status) (text : Bytes) → LawfulAnswers t l r status text → Stage t l r (Judged thereafter) status
-lawful_stage t l r thereafter Refused text (inl h) = inr (inl (h.fault, h.given, refl))
-lawful_stage t l r thereafter Refused text (inr h) = inr (inr (inl (h.tour, h.fault, h.tour_given, h.given, refl)))
-lawful_stage t l r thereafter ReadFault text h = inl (inl refl)
 lawful_stage t l r thereafter LogUnlawful text h = inr (inr (inr (record { tour = h.tour; log = h.log; given = h.read.given; holds = inl (not_lawful h.tour h.log h.unlawful.unit h.unlawful.first, refl) })))
-lawful_stage t l r thereafter Done text h = absurd h
-lawful_stage t l r thereafter Usage text h = absurd h
-lawful_stage t l r thereafter Infeasible text h = absurd h
-lawful_stage t l r thereafter Spent text h = absurd h
-lawful_stage t l r thereafter WriteFault text h = absurd h
-lawful_stage t l r thereafter Memory text h = absurd h
-lawful_stage t l r thereafter Rejected text h = absurd h
+lawful_stage t l r thereafter status text h = input_stage t l r (Judged thereafter) status text h
 
 pub audit_stage : (t l : Bytes) (r : ReadSide) (s : SinkSide) (status : Status) → Told (AuditAnswers t l r) (InputsLeave t l r) s status → Stage t l r (Judged AuditBehind) status
 audit_stage t l r s Done e = let h = e.1 in lawful_after t l r AuditBehind Done h.tour h.log h.lawful.read.given h.lawful.lawful refl
-audit_stage t l r s Refused e = lawful_stage t l r AuditBehind Refused e.0 e.1
-audit_stage t l r s LogUnlawful e = lawful_stage t l r AuditBehind LogUnlawful e.0 e.1
-audit_stage t l r s ReadFault e = inl (inl refl)
 audit_stage t l r s WriteFault e = inl (inr (inl refl))
 audit_stage t l r s Memory e = inl (inr (inr (inl refl)))
-audit_stage t l r s Usage e = absurd e.1
-audit_stage t l r s Infeasible e = absurd e.1
-audit_stage t l r s Spent e = absurd e.1
-audit_stage t l r s Rejected e = absurd e.1
+audit_stage t l r s status e = lawful_stage t l r AuditBehind status e.0 e.1
 
 accepted : (tour : Tour) (log : List Activity) (bytes text : Bytes) → BytesAnswers tour log bytes Done text → IsAccepted tour log bytes
 accepted tour log bytes text (short, inl h) = (h.cert, record { is = h.is; short = short })
@@ -136,14 +108,10 @@ check_stage t l c r s Rejected e =
     let h = e.1 in
     lawful_after t l r (CheckBehind c r) Rejected h.tour h.log h.lawful.read.given h.lawful.lawful
     (record { bytes = h.bytes; given = h.given; answer = inr (refl, not_accepted h.tour h.log h.bytes e.0 h.answer) })
-check_stage t l c r s Refused e = lawful_stage t l r (CheckBehind c r) Refused e.0 e.1
-check_stage t l c r s LogUnlawful e = lawful_stage t l r (CheckBehind c r) LogUnlawful e.0 e.1
 check_stage t l c r s ReadFault e = inl (inl refl)
 check_stage t l c r s WriteFault e = inl (inr (inl refl))
 check_stage t l c r s Memory e = inl (inr (inr (inl refl)))
-check_stage t l c r s Usage e = absurd e.1
-check_stage t l c r s Infeasible e = absurd e.1
-check_stage t l c r s Spent e = absurd e.1
+check_stage t l c r s status e = lawful_stage t l r (CheckBehind c r) status e.0 e.1
 
 pub plan_stage : (t l c : Bytes) (budget : ℕ) (r : ReadSide) (w : WriteSide) (s : SinkSide) (status : Status) → Told (PlanAnswers t l c budget r w) (PlanLeaves t l c r w) s status → Stage t l r (Judged (PlanBehind budget)) status
 plan_stage t l c budget r w s Done e =
@@ -155,10 +123,6 @@ plan_stage t l c budget r w s Infeasible e =
 plan_stage t l c budget r w s Spent e =
     let h = e.1.1 in
     lawful_after t l r (PlanBehind budget) Spent h.tour h.log h.lawful.read.given h.lawful.lawful (inr (inr (refl, h.spent.many)))
-plan_stage t l c budget r w s Refused e = lawful_stage t l r (PlanBehind budget) Refused e.0 e.1.1
-plan_stage t l c budget r w s LogUnlawful e = lawful_stage t l r (PlanBehind budget) LogUnlawful e.0 e.1.1
-plan_stage t l c budget r w s ReadFault e = inl (inl refl)
 plan_stage t l c budget r w s WriteFault e = inl (inr (inl refl))
 plan_stage t l c budget r w s Memory e = inl (inr (inr (inl refl)))
-plan_stage t l c budget r w s Usage e = absurd e.1.1
-plan_stage t l c budget r w s Rejected e = absurd e.1.1
+plan_stage t l c budget r w s status e = lawful_stage t l r (PlanBehind budget) status e.0 e.1.1

@@ -14,7 +14,7 @@ use Rattle.driver_cli.specs.declared.answer.Answer.{Answer}
 use Rattle.driver_cli.specs.declared.answer.Halt.{Halt}
 use Rattle.driver_cli.specs.declared.answer.Halt.TheVariants as halt
 use Rattle.driver_cli.specs.declared.answer.Status.{Status}
-use Rattle.driver_cli.specs.declared.answer.Status.TheVariants.{Done, Usage, Refused, Infeasible, LogUnlawful, Spent, ReadFault, WriteFault, Memory, Rejected}
+use Rattle.driver_cli.specs.declared.answer.Status.TheVariants.{Done, Refused, Infeasible, LogUnlawful, Spent, ReadFault, WriteFault, Memory, Rejected}
 use Rattle.driver_cli.specs.Answers.{AuditAnswers, GraphAnswers, BytesAnswers, CheckAnswers, CheckLeaves, PlanAnswers, PlanLeaves}
 use Rattle.driver_cli.specs.Fetched.{IsFileFault, IsFetched, AreInputsFetched}
 use Rattle.driver_cli.specs.Given.{GivesCert}
@@ -70,14 +70,7 @@ module _ {D : Type 0} (told : desk.Ghosts D) (a b c : D) where
 input_lawful : (t l : Bytes) (r : ReadSide) (status : Status) (text : Bytes) → InputAnswers t l r status text → LawfulAnswers t l r status text
 input_lawful t l r Refused text h = h
 input_lawful t l r ReadFault text h = h
-input_lawful t l r Done text h = absurd h
-input_lawful t l r Usage text h = absurd h
-input_lawful t l r Infeasible text h = absurd h
-input_lawful t l r LogUnlawful text h = absurd h
-input_lawful t l r Spent text h = absurd h
-input_lawful t l r WriteFault text h = absurd h
-input_lawful t l r Memory text h = absurd h
-input_lawful t l r Rejected text h = absurd h
+input_lawful t l r status text h = absurd h
 
 unlawful_lawful : (t l : Bytes) (r : ReadSide) (tour : Tour) (log : List Activity) (status : Status) (text : Bytes) → AreRead t l r tour log → status ≡ LogUnlawful → IsUnlawful tour log text → LawfulAnswers t l r status text
 unlawful_lawful t l r tour log status text read is u = rw is record { tour = tour; log = log; read = read; unlawful = u }
@@ -85,16 +78,8 @@ unlawful_lawful t l r tour log status text read is u = rw is record { tour = tou
 -- ---- `audit`
 
 lawful_audit : (t l : Bytes) (r : ReadSide) (status : Status) (text : Bytes) → LawfulAnswers t l r status text → AuditAnswers t l r status text
-lawful_audit t l r Refused text h = h
-lawful_audit t l r ReadFault text h = h
-lawful_audit t l r LogUnlawful text h = h
 lawful_audit t l r Done text h = absurd h
-lawful_audit t l r Usage text h = absurd h
-lawful_audit t l r Infeasible text h = absurd h
-lawful_audit t l r Spent text h = absurd h
-lawful_audit t l r WriteFault text h = absurd h
-lawful_audit t l r Memory text h = absurd h
-lawful_audit t l r Rejected text h = absurd h
+lawful_audit t l r status text h = h
 
 pub audit_unlawful : (t l : Bytes) (r : ReadSide) (tour : Tour) (log : List Activity) (e : Halt) → AreRead t l r tour log → IsLawfulOr tour log (Err e) → Concludes (Err e) (AuditAnswers t l r) (InputsLeave t l r)
 audit_unlawful t l r tour log (halt.Answered a) read h = lawful_audit t l r a.status a.text (unlawful_lawful t l r tour log a.status a.text read h.0 h.1)
@@ -103,16 +88,8 @@ audit_unlawful t l r tour log halt.Memory read h = inl read.unfailed
 -- ---- `graph`
 
 input_graph : (t l : Bytes) (r : ReadSide) (status : Status) (text : Bytes) → InputAnswers t l r status text → GraphAnswers t l r status text
-input_graph t l r Refused text h = h
-input_graph t l r ReadFault text h = h
-input_graph t l r LogUnlawful text h = absurd h
 input_graph t l r Done text h = absurd h
-input_graph t l r Usage text h = absurd h
-input_graph t l r Infeasible text h = absurd h
-input_graph t l r Spent text h = absurd h
-input_graph t l r WriteFault text h = absurd h
-input_graph t l r Memory text h = absurd h
-input_graph t l r Rejected text h = absurd h
+input_graph t l r status text h = h
 
 pub graph_halts : (t l : Bytes) (r : ReadSide) (e : Halt) → AreInputsFetched t l r (Err e) → Concludes (Err e) (GraphAnswers t l r) (InputsLeave t l r)
 graph_halts t l r (halt.Answered a) h = input_graph t l r a.status a.text h
@@ -121,16 +98,10 @@ graph_halts t l r halt.Memory h = h
 -- ---- `check`
 
 lawful_check : (t l c : Bytes) (r : ReadSide) (status : Status) (text : Bytes) → LawfulAnswers t l r status text → CheckAnswers t l c r status text
-lawful_check t l c r Refused text h = h
 lawful_check t l c r ReadFault text h = inl h
-lawful_check t l c r LogUnlawful text h = h
 lawful_check t l c r Done text h = absurd h
-lawful_check t l c r Usage text h = absurd h
-lawful_check t l c r Infeasible text h = absurd h
-lawful_check t l c r Spent text h = absurd h
-lawful_check t l c r WriteFault text h = absurd h
-lawful_check t l c r Memory text h = absurd h
 lawful_check t l c r Rejected text h = absurd h
+lawful_check t l c r status text h = h
 
 pub check_unlawful : (t l c : Bytes) (r : ReadSide) (tour : Tour) (log : List Activity) (e : Halt) → AreRead t l r tour log → IsLawfulOr tour log (Err e) → Concludes (Err e) (CheckAnswers t l c r) (CheckLeaves t l c r)
 check_unlawful t l c r tour log (halt.Answered a) read h = lawful_check t l c r a.status a.text (unlawful_lawful t l r tour log a.status a.text read h.0 h.1)
@@ -147,28 +118,16 @@ cert_halts t l c r tour log limit halt.Memory given lawful (inr h) = inr h
 pub cert_checked : (t l c : Bytes) (r : ReadSide) (tour : Tour) (log : List Activity) (bytes : Bytes) (status : Status) (text : Bytes) → AreLawful t l r tour log → GivesCert r.files c bytes → BytesAnswers tour log bytes status text → CheckAnswers t l c r status text
 cert_checked t l c r tour log bytes Done text lawful given h = record { tour = tour; log = log; lawful = lawful; bytes = bytes; given = given; answer = h }
 cert_checked t l c r tour log bytes Rejected text lawful given h = record { tour = tour; log = log; lawful = lawful; bytes = bytes; given = given; answer = h }
-cert_checked t l c r tour log bytes Refused text lawful given h = absurd h
-cert_checked t l c r tour log bytes ReadFault text lawful given h = absurd h
-cert_checked t l c r tour log bytes LogUnlawful text lawful given h = absurd h
-cert_checked t l c r tour log bytes Usage text lawful given h = absurd h
-cert_checked t l c r tour log bytes Infeasible text lawful given h = absurd h
-cert_checked t l c r tour log bytes Spent text lawful given h = absurd h
-cert_checked t l c r tour log bytes WriteFault text lawful given h = absurd h
-cert_checked t l c r tour log bytes Memory text lawful given h = absurd h
+cert_checked t l c r tour log bytes status text lawful given h = absurd h
 
 -- ---- `plan`
 
 lawful_plan : (t l c : Bytes) (budget : ℕ) (r : ReadSide) (w : WriteSide) (status : Status) (text : Bytes) → IsKept w → LawfulAnswers t l r status text → PlanAnswers t l c budget r w status text
-lawful_plan t l c budget r w Refused text kept h = (kept, h)
-lawful_plan t l c budget r w ReadFault text kept h = (kept, h)
-lawful_plan t l c budget r w LogUnlawful text kept h = (kept, h)
 lawful_plan t l c budget r w Done text kept h = absurd h
-lawful_plan t l c budget r w Usage text kept h = absurd h
 lawful_plan t l c budget r w Infeasible text kept h = absurd h
 lawful_plan t l c budget r w Spent text kept h = absurd h
 lawful_plan t l c budget r w WriteFault text kept h = absurd h
-lawful_plan t l c budget r w Memory text kept h = absurd h
-lawful_plan t l c budget r w Rejected text kept h = absurd h
+lawful_plan t l c budget r w status text kept h = (kept, h)
 
 module _ (t l c : Bytes) (budget : ℕ) (r : ReadSide) (w : WriteSide) where
   pub plan_halts : (e : Halt) → IsKept w → AreInputsFetched t l r (Err e) → Concludes (Err e) (PlanAnswers t l c budget r w) (PlanLeaves t l c r w)
@@ -178,14 +137,7 @@ module _ (t l c : Bytes) (budget : ℕ) (r : ReadSide) (w : WriteSide) where
   declined : (tour : Tour) (log : List Activity) (status : Status) (text : Bytes) → IsKept w → AreRead t l r tour log → Declines tour log budget status text → PlanAnswers t l c budget r w status text
   declined tour log Spent text kept read h = (kept, record { tour = tour; log = log; lawful = record { read = read; lawful = h.0 }; spent = h.1; told = h.2 })
   declined tour log LogUnlawful text kept read h = (kept, record { tour = tour; log = log; read = read; unlawful = h })
-  declined tour log Done text kept read h = absurd h
-  declined tour log Usage text kept read h = absurd h
-  declined tour log Refused text kept read h = absurd h
-  declined tour log Infeasible text kept read h = absurd h
-  declined tour log ReadFault text kept read h = absurd h
-  declined tour log WriteFault text kept read h = absurd h
-  declined tour log Memory text kept read h = absurd h
-  declined tour log Rejected text kept read h = absurd h
+  declined tour log status text kept read h = absurd h
 
   pub plan_declines : (tour : Tour) (log : List Activity) (e : Halt) → IsKept w → AreRead t l r tour log → IsProposed tour log budget (Err e) → Concludes (Err e) (PlanAnswers t l c budget r w) (PlanLeaves t l c r w)
   plan_declines tour log (halt.Answered a) kept read h = declined tour log a.status a.text kept read h
@@ -202,14 +154,7 @@ module _ (t l c : Bytes) (budget : ℕ) (r : ReadSide) (w : WriteSide) where
   pub proved : (tour : Tour) (log : List Activity) (bytes : Bytes) (status : Status) (text : Bytes) → AreLawful t l r tour log → Proves tour log bytes status text → HasPut w c bytes → PlanAnswers t l c budget r w status text
   proved tour log bytes Done text lawful h put = record { tour = tour; log = log; lawful = lawful; bytes = bytes; proof = h; put = put }
   proved tour log bytes Infeasible text lawful h put = record { tour = tour; log = log; lawful = lawful; bytes = bytes; proof = h; put = put }
-  proved tour log bytes Usage text lawful h put = absurd h
-  proved tour log bytes Refused text lawful h put = absurd h
-  proved tour log bytes LogUnlawful text lawful h put = absurd h
-  proved tour log bytes Spent text lawful h put = absurd h
-  proved tour log bytes ReadFault text lawful h put = absurd h
-  proved tour log bytes WriteFault text lawful h put = absurd h
-  proved tour log bytes Memory text lawful h put = absurd h
-  proved tour log bytes Rejected text lawful h put = absurd h
+  proved tour log bytes status text lawful h put = absurd h
 
 -- ---- `make`
 
@@ -276,13 +221,7 @@ module _ (number : ℕ) (t l : Bytes) (w : WriteSide) where
   summarized tour log Done text made put h = record { tour = tour; log = log; made = made; put = put; told = h }
   summarized tour log Infeasible text made put h = record { tour = tour; log = log; made = made; put = put; told = h }
   summarized tour log Spent text made put h = record { tour = tour; log = log; made = made; put = put; told = h }
-  summarized tour log Usage text made put h = absurd h
-  summarized tour log Refused text made put h = absurd h
-  summarized tour log LogUnlawful text made put h = absurd h
-  summarized tour log ReadFault text made put h = absurd h
-  summarized tour log WriteFault text made put h = absurd h
-  summarized tour log Memory text made put h = absurd h
-  summarized tour log Rejected text made put h = absurd h
+  summarized tour log status text made put h = absurd h
 
 -- ---- all commands
 
