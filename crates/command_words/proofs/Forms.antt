@@ -21,7 +21,7 @@ use Rattle.command_words.specs.Calls.{place, number_place, budget_option}
 use Rattle.command_words.specs.Command.{IsNumber, IsCommandLine}
 use Rattle.command_words.specs.Names.{IsPlainName}
 use Rattle.command_words.proofs.Known.{both}
-use Rattle.command_words.proofs.PlainForms.{Ends, shape, ends_here, ends_after, place_step, plain_no_flag, taken_by, turn_plain, walked_plain, word_by, walk_at}
+use Rattle.command_words.proofs.PlainForms.{WalksTo, shape, ends_here, ends_after, place_step, plain_no_flag, taken_by, turn_plain, walked_plain, word_by, walk_at}
 
 -- ---- numbers
 
@@ -78,7 +78,7 @@ two = place (codes "tour") ∷ place (codes "log") ∷ []
 abbrev two_walk : Text → Text → Walk
 two_walk t l = walk_at (holding (given (codes "tour") t ∷ []) (codes "log") l) idle 3
 
-two_ends : (name t l : Text) → IsPlainName t → IsPlainName l → Ends (shape name two) (walk_from nothing_held) (t ∷ l ∷ []) (two_walk t l)
+two_ends : (name t l : Text) → IsPlainName t → IsPlainName l → WalksTo (shape name two) (walk_from nothing_held) (t ∷ l ∷ []) (two_walk t l)
 unfolding clap_on_literals
 two_ends name t l p q =
     let s = shape name two in
@@ -115,7 +115,7 @@ abbrev three_walk : Text → Text → Text → Walk
 three_walk t l c = walk_at (holding (names t l) (codes "cert") c) idle 4
 
 three_ends : (name t l c : Text) → IsPlainName t → IsPlainName l → IsPlainName c
-    → Ends (shape name three) (walk_from nothing_held) (t ∷ l ∷ c ∷ []) (three_walk t l c)
+    → WalksTo (shape name three) (walk_from nothing_held) (t ∷ l ∷ c ∷ []) (three_walk t l c)
 unfolding clap_on_literals
 three_ends name t l c p q r =
     let s = shape name three in
@@ -143,8 +143,8 @@ four = place (codes "tour") ∷ place (codes "log") ∷ place (codes "cert") ∷
 
 -- three names, and what comes after them
 names_then : (t l c : Text) (rest : List Text) (w : Walk) → IsPlainName t → IsPlainName l → IsPlainName c
-    → Ends (shape (codes "plan") four) (three_walk t l c) rest w
-    → Ends (shape (codes "plan") four) (walk_from nothing_held) (t ∷ l ∷ c ∷ rest) w
+    → WalksTo (shape (codes "plan") four) (three_walk t l c) rest w
+    → WalksTo (shape (codes "plan") four) (walk_from nothing_held) (t ∷ l ∷ c ∷ rest) w
 unfolding clap_on_literals
 names_then t l c rest w p q r e =
     let s = shape (codes "plan") four in
@@ -168,8 +168,8 @@ plan_form t l c p q r =
 
 -- the value after the option
 value_then : (rows : List Row) (i : ℕ) (text : Text) (rest : List Text) (w : Walk) → IsPlainName text
-    → Ends (shape (codes "plan") four) (walk_at (holding rows (codes "budget") text) idle i) rest w
-    → Ends (shape (codes "plan") four) (walk_at (wanting rows) (option (codes "budget")) i) (text ∷ rest) w
+    → WalksTo (shape (codes "plan") four) (walk_at (holding rows (codes "budget") text) idle i) rest w
+    → WalksTo (shape (codes "plan") four) (walk_at (wanting rows) (option (codes "budget")) i) (text ∷ rest) w
 unfolding clap_on_literals
 value_then rows i text rest w plain e =
     let s = shape (codes "plan") four in
@@ -198,7 +198,7 @@ abbrev before_walk : Text → Text → Text → Text → Walk
 before_walk t l c text = walk_at (holding (given (codes "budget") text ∷ names t l) (codes "cert") c) idle 4
 
 before_ends : (t l c text : Text) (n : ℕ) → IsPlainName t → IsPlainName l → IsPlainName c → IsNumber text 1 MOST_BUDGET n
-    → Ends (shape (codes "plan") four) (walk_from nothing_held) (codes "--budget" ∷ text ∷ t ∷ l ∷ c ∷ []) (before_walk t l c text)
+    → WalksTo (shape (codes "plan") four) (walk_from nothing_held) (codes "--budget" ∷ text ∷ t ∷ l ∷ c ∷ []) (before_walk t l c text)
 unfolding clap_on_literals
 before_ends t l c text n p q r number =
     let s = shape (codes "plan") four in
@@ -261,7 +261,7 @@ abbrev made_walk : Text → Text → Text → Walk
 made_walk text t l = walk_at (holding (given (codes "number") text ∷ given (codes "tour") t ∷ []) (codes "log") l) idle 4
 
 made_ends : (text t l : Text) (n : ℕ) → IsNumber text 0 MOST_MADE n → IsPlainName t → IsPlainName l
-    → Ends (shape (codes "make") made) (walk_from nothing_held) (text ∷ t ∷ l ∷ []) (made_walk text t l)
+    → WalksTo (shape (codes "make") made) (walk_from nothing_held) (text ∷ t ∷ l ∷ []) (made_walk text t l)
 unfolding clap_on_literals
 made_ends text t l n number p q =
     let s = shape (codes "make") made in
@@ -307,7 +307,7 @@ abbrev trailing_at : Held → ℕ → Walk
 trailing_at h i = record { held = h; waiting = idle; position = i; is_trailing = true; stopped = None }
 
 made_after : (text t l : Text) (n : ℕ) → IsNumber text 0 MOST_MADE n
-    → Ends (shape (codes "make") made) (walk_from nothing_held) (codes "--" ∷ text ∷ t ∷ l ∷ []) (trailing_at (made_walk text t l).held 4)
+    → WalksTo (shape (codes "make") made) (walk_from nothing_held) (codes "--" ∷ text ∷ t ∷ l ∷ []) (trailing_at (made_walk text t l).held 4)
 unfolding clap_on_literals
 made_after text t l n number =
     let s = shape (codes "make") made in

@@ -66,15 +66,15 @@ turn_plain s h waiting i t bare =
 -- ---- many words
 
 -- a walk over the words ends at this one, with no fault
-abbrev pub Ends : Shape → Walk → List Text → Walk → Type 0
-Ends s w words w' = (fold (walked s.rules []) w words ≡ w') × (walk_fault s [] w words ≡ [])
+abbrev pub WalksTo : Shape → Walk → List Text → Walk → Type 0
+WalksTo s w words w' = (fold (walked s.rules []) w words ≡ w') × (walk_fault s [] w words ≡ [])
 
-pub ends_here : (s : Shape) (w : Walk) → Ends s w [] w
+pub ends_here : (s : Shape) (w : Walk) → WalksTo s w [] w
 unfolding walk_fault
 ends_here s w = (refl, refl)
 
 pub ends_after : (s : Shape) (w after w' : Walk) (t : Text) (rest : List Text) → turn_fault s [] w t ≡ [] → walked s.rules [] w t ≡ after
-    → Ends s after rest w' → Ends s w (t ∷ rest) w'
+    → WalksTo s after rest w' → WalksTo s w (t ∷ rest) w'
 unfolding walk_fault
 ends_after s w after w' t rest none step e = (
   ap (λ z. fold (walked s.rules []) z rest) step ∙ e.0,
@@ -89,30 +89,30 @@ end_fault s w = or_else (settle_fault s.rules s.args_override_self w.held)
 abbrev pub shape : Text → List Rule → Shape
 shape name rules = (built (call name rules)).top
 
-level_by : (s : Shape) (words : List Text) (w : Walk) → Ends s (walk_from nothing_held) words w → end_fault s w ≡ []
+level_by : (s : Shape) (words : List Text) (w : Walk) → WalksTo s (walk_from nothing_held) words w → end_fault s w ≡ []
     → level_fault s [] nothing_held words false [] ≡ []
 level_by s words w e none =
     ap (λ ks. or_else ks (end_fault s (walk s.rules [] nothing_held words))) e.1 ∙ (ap (end_fault s) e.0 ∙ none)
 
-app_by : (s : Shape) (words : List Text) (w : Walk) → Ends s (walk_from nothing_held) words w → w.stopped ≡ None → end_fault s w ≡ []
+app_by : (s : Shape) (words : List Text) (w : Walk) → WalksTo s (walk_from nothing_held) words w → w.stopped ≡ None → end_fault s w ≡ []
     → built_fault (record { top = s; subs = [] }) nothing_held words ≡ []
 app_by s words w e stop none =
     let a : App = record { top = s; subs = [] } in
     let ended : (walk s.rules [] nothing_held words).stopped ≡ None = ap (λ (z : Walk). z.stopped) e.0 ∙ stop in
     ap (λ st. level_fault s [] nothing_held words (is_some (entered a st)) (entered_fault a st)) ended ∙ level_by s words w e none
 
-pub taken_by : (name : Text) (rules : List Rule) (words : List Text) (w : Walk) → Ends (shape name rules) (walk_from nothing_held) words w
+pub taken_by : (name : Text) (rules : List Rule) (words : List Text) (w : Walk) → WalksTo (shape name rules) (walk_from nothing_held) words w
     → w.stopped ≡ None → end_fault (shape name rules) w ≡ [] → fault_of (call name rules) (name ∷ words) ≡ []
 taken_by name rules words w e stop none = app_by (shape name rules) words w e stop none
 
-pub word_by : (name : Text) (rules : List Rule) (words : List Text) (w : Walk) (id word : Text) → Ends (shape name rules) (walk_from nothing_held) words w
+pub word_by : (name : Text) (rules : List Rule) (words : List Text) (w : Walk) (id word : Text) → WalksTo (shape name rules) (walk_from nothing_held) words w
     → first_of id (finished (shape name rules).rules w.held) ≡ Some word → HasWord (call name rules) (name ∷ words) id word
 word_by name rules words w id word e found = ap (λ (z : Walk). first_of id (finished (shape name rules).rules z.held)) e.0 ∙ found
 
 -- a plain word that goes to a positional
 pub place_step : (s : Shape) (h h' : Held) (i i' : ℕ) (t : Text) (rest : List Text) (w : Walk) → IsPlainName t → step_fault s i h value ≡ []
-    → after_step s.rules t (walk_at h idle i) h value ≡ walk_at h' idle i' → Ends s (walk_at h' idle i') rest w
-    → Ends s (walk_at h idle i) (t ∷ rest) w
+    → after_step s.rules t (walk_at h idle i) h value ≡ walk_at h' idle i' → WalksTo s (walk_at h' idle i') rest w
+    → WalksTo s (walk_at h idle i) (t ∷ rest) w
 place_step s h h' i i' t rest w plain none step e =
     let bare = plain_no_flag t plain in
     ends_after s (walk_at h idle i) (walk_at h' idle i') w t rest (turn_plain s h idle i t bare ∙ none) (walked_plain s.rules h idle i t bare ∙ step) e
