@@ -1,10 +1,11 @@
 -- From what a parse gives to a command.
-use Rattle.std.proofs.Common.{◌≡◌, ◌∙◌, ◌≤◌, ◌^◌, ◌-◌, ℕ, List, [], Some, codes, false, refl, ap, sym, subst, arith}
+use Rattle.std.proofs.Common.{◌≡◌, ◌∙◌, ◌≤◌, ◌^◌, ◌-◌, ℕ, List, [], Some, codes, false, true, is_some, inl, inr, refl, ap, sym, subst, arith}
 use Rattle.std.specs.Prelude.{Option, None, Result, Ok, Err, IfOk, IfNone, IfSome, MatchOption, slice_get, slice_index}
 use Rattle.std.specs.Str.Parse.{digits_value, without_leading_plus}
 use Rattle.clap.specs.Walk.{Text, first_of, rows_of}
 use Rattle.clap.specs.Values.{IsUnsignedIn}
 use Rattle.clap.specs.Simple.{App, app_of, matches_of}
+use Rattle.clap.specs.Built.{IsParsedFrom}
 use Rattle.clap.specs.Faults.{fault_of}
 use Rattle.clap.specs.Matches.{first_value, found_of, one_text}
 use Rattle.clap.specs.declared.builder.command.Command.{Command}
@@ -16,9 +17,9 @@ use Rattle.label_search.specs.declared.by_layers.TheConstants.{MOST_BUDGET}
 use Rattle.command_words.specs.declared.command.TheConstants.{MOST_MADE}
 use Rattle.command_words.specs.declared.command.Command as planner
 use Rattle.command_words.specs.declared.command.Command.TheVariants.{Plan, Check, Audit, Graph, Make}
-use Rattle.command_words.specs.Calls.{plan_call, check_call, audit_call, graph_call, make_call}
+use Rattle.command_words.specs.Calls.{place, number_place, budget_option, plan_call, check_call, audit_call, graph_call, make_call}
 use Rattle.command_words.specs.Command.{Takes, HasWord, HasNumber, IsCommandLine, IsNoCommandLine, AreRefused, HasBudget}
-use Rattle.command_words.proofs.Known.{FirstValue}
+use Rattle.command_words.proofs.Known.{FirstValue, is_known, value_given, value_read}
 
 pub words_taken : (c : Command) (a : App) (words : List Bytes) → app_of c ≡ a → slice_get words 0 ≡ Some a.top.name
     → fault_of (app_of c) words ≡ [] → Takes a words
@@ -49,6 +50,48 @@ number_fits m id least most fits value =
     let passed : IsUnsignedIn least most value.text = value.passed in
     let high = passed.3 in
     (value.text, value.read, (passed.0, passed.1, omega arith, omega arith))
+
+-- ---- the arguments of the commands
+
+-- an argument that has to be there has a word
+pub name_given : (c : Command) (a : App) (m : ArgMatches) → app_of c ≡ a → is_known a ≡ true → IsParsedFrom c m
+    → (k : ℕ) (id : Text) → slice_get a.top.rules k ≡ Some (place id) → is_some (first_value (found_of m) id) ≡ true
+name_given c a m e known p k id at = value_given c a m e known p k (place id) at (refl, refl, inl refl)
+
+-- the number of a made tour has a value that passed
+pub made_number_given : (c : Command) (m : ArgMatches) → app_of c ≡ make_call → IsParsedFrom c m
+    → FirstValue (found_of m) (codes "number") false (Unsigned 0 MOST_MADE)
+made_number_given c m e p =
+    value_read c make_call m e refl p 0 (number_place (codes "number") MOST_MADE) refl (refl, refl, inl refl) (Unsigned 0 MOST_MADE) refl
+
+-- so has the budget
+pub budget_given : (c : Command) (m : ArgMatches) → app_of c ≡ plan_call → IsParsedFrom c m
+    → FirstValue (found_of m) (codes "budget") false (Unsigned 1 MOST_BUDGET)
+budget_given c m e p =
+    value_read c plan_call m e refl p 3 budget_option refl (refl, refl, inr (omega arith)) (Unsigned 1 MOST_BUDGET) refl
+
+-- where the command takes the words, the names of a tour and a log are those that were found
+pub names_found : (c : Command) (a : App) (m : ArgMatches) (words : List Bytes) (tour log : Bytes) → app_of c ≡ a
+    → slice_get words 0 ≡ Some a.top.name → fault_of (app_of c) words ≡ [] → rows_of (found_of m) ≡ matches_of (app_of c) words
+    → first_value (found_of m) (codes "tour") ≡ Some tour → first_value (found_of m) (codes "log") ≡ Some log
+    → Takes a words × HasWord a words (codes "tour") tour × HasWord a words (codes "log") log
+names_found c a m words tour log e name faults rows t l = (
+  words_taken c a words e name faults,
+  word_found c a m words (codes "tour") tour e rows t,
+  word_found c a m words (codes "log") log e rows l,
+)
+
+-- and so is that of a certificate
+pub three_names_found : (c : Command) (a : App) (m : ArgMatches) (words : List Bytes) (tour log cert : Bytes) → app_of c ≡ a
+    → slice_get words 0 ≡ Some a.top.name → fault_of (app_of c) words ≡ [] → rows_of (found_of m) ≡ matches_of (app_of c) words
+    → first_value (found_of m) (codes "tour") ≡ Some tour → first_value (found_of m) (codes "log") ≡ Some log
+    → first_value (found_of m) (codes "cert") ≡ Some cert
+    → Takes a words × HasWord a words (codes "tour") tour × HasWord a words (codes "log") log × HasWord a words (codes "cert") cert
+three_names_found c a m words tour log cert e name faults rows t l k =
+    let names = names_found c a m words tour log e name faults rows t l in
+    (names.0, names.1, names.2, word_found c a m words (codes "cert") cert e rows k)
+
+-- ---- words that are no command
 
 -- where no command takes the words, they are no command
 pub refused_is_none : (words : List Bytes) → AreRefused words → IsNoCommandLine words

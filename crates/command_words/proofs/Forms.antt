@@ -17,8 +17,8 @@ use Rattle.outside.specs.Outside.{Bytes}
 use Rattle.label_search.specs.declared.by_layers.TheConstants.{MOST_BUDGET}
 use Rattle.command_words.specs.declared.command.Command.TheVariants.{Plan, Check, Audit, Graph, Make}
 use Rattle.command_words.specs.declared.command.TheConstants.{BUDGET, MOST_MADE}
-use Rattle.command_words.specs.Calls.{place, number_place, budget_option}
-use Rattle.command_words.specs.Command.{IsNumber, IsCommandLine}
+use Rattle.command_words.specs.Calls.{call, place, number_place, budget_option}
+use Rattle.command_words.specs.Command.{Takes, HasWord, IsNumber, IsCommandLine}
 use Rattle.command_words.specs.Names.{IsPlainName}
 use Rattle.command_words.proofs.Known.{both}
 use Rattle.command_words.proofs.PlainForms.{WalksTo, shape, ends_here, ends_after, place_step, plain_no_flag, taken_by, turn_plain, walked_plain, word_by, walk_at}
@@ -86,25 +86,22 @@ two_ends name t l p q =
     (place_step s (holding [] (codes "tour") t) (two_walk t l).held 2 3 l [] (two_walk t l) q refl refl
     (ends_here s (two_walk t l)))
 
-pub audit_form : (t l : Bytes) → IsPlainName t → IsPlainName l → IsCommandLine (codes "audit" ∷ t ∷ l ∷ []) (Audit t l)
+-- the words ask for a command of this name with these two files
+two_form : (name t l : Text) → IsPlainName t → IsPlainName l
+    → Takes (call name two) (name ∷ t ∷ l ∷ []) × HasWord (call name two) (name ∷ t ∷ l ∷ []) (codes "tour") t
+    × HasWord (call name two) (name ∷ t ∷ l ∷ []) (codes "log") l
 unfolding clap_on_literals
-audit_form t l p q =
-    let e = two_ends (codes "audit") t l p q in
-    let words = t ∷ l ∷ [] in (
-      (refl, taken_by (codes "audit") two words (two_walk t l) e refl refl),
-      word_by (codes "audit") two words (two_walk t l) (codes "tour") t e refl,
-      word_by (codes "audit") two words (two_walk t l) (codes "log") l e refl,
-    )
+two_form name t l p q =
+    let w = two_walk t l in
+    let e = two_ends name t l p q in
+    let words = t ∷ l ∷ [] in
+    ((refl, taken_by name two words w e refl refl), word_by name two words w (codes "tour") t e refl, word_by name two words w (codes "log") l e refl)
+
+pub audit_form : (t l : Bytes) → IsPlainName t → IsPlainName l → IsCommandLine (codes "audit" ∷ t ∷ l ∷ []) (Audit t l)
+audit_form t l p q = two_form (codes "audit") t l p q
 
 pub graph_form : (t l : Bytes) → IsPlainName t → IsPlainName l → IsCommandLine (codes "graph" ∷ t ∷ l ∷ []) (Graph t l)
-unfolding clap_on_literals
-graph_form t l p q =
-    let e = two_ends (codes "graph") t l p q in
-    let words = t ∷ l ∷ [] in (
-      (refl, taken_by (codes "graph") two words (two_walk t l) e refl refl),
-      word_by (codes "graph") two words (two_walk t l) (codes "tour") t e refl,
-      word_by (codes "graph") two words (two_walk t l) (codes "log") l e refl,
-    )
+graph_form t l p q = two_form (codes "graph") t l p q
 
 -- ---- three names
 

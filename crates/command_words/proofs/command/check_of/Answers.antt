@@ -1,34 +1,22 @@
-use Rattle.std.proofs.Common.{map, refl, inl, codes}
-use Rattle.command_words.specs.Calls.{place, check_call}
-use Rattle.command_words.proofs.Known.{value_given}
-use Rattle.command_words.proofs.CommandLines.{words_taken, word_found}
+use Rattle.std.proofs.Common.{map, refl, codes}
+use Rattle.command_words.specs.Calls.{check_call}
+use Rattle.command_words.proofs.CommandLines.{name_given, three_names_found}
 use Rattle.command_words.proofs.command.check_of.Goals as goal
 
 pub word_of-requires : goal.word_of-requires
 word_of-requires c =
-    value_given c.in_ok-call.call check_call c.in-Some.matches c.in_ok-call.ensures refl (rw c.in-Some.is at c.in_ok-matches.ensures.parsed)
-    0 (place (codes "tour")) refl (refl, refl, inl refl)
+    name_given c.in_ok-call.call check_call c.in-Some.matches c.in_ok-call.ensures refl (rw c.in-Some.is at c.in_ok-matches.ensures.parsed) 0 (codes "tour") refl
 
 pub word_of-requires-2 : goal.word_of-requires-2
 word_of-requires-2 c =
-    value_given c.in_ok-call.call check_call c.in-Some.matches c.in_ok-call.ensures refl (rw c.in-Some.is at c.in_ok-matches.ensures.parsed)
-    1 (place (codes "log")) refl (refl, refl, inl refl)
+    name_given c.in_ok-call.call check_call c.in-Some.matches c.in_ok-call.ensures refl (rw c.in-Some.is at c.in_ok-matches.ensures.parsed) 1 (codes "log") refl
 
 pub word_of-requires-3 : goal.word_of-requires-3
 word_of-requires-3 c =
-    value_given c.in_ok-call.call check_call c.in-Some.matches c.in_ok-call.ensures refl (rw c.in-Some.is at c.in_ok-matches.ensures.parsed)
-    2 (place (codes "cert")) refl (refl, refl, inl refl)
+    name_given c.in_ok-call.call check_call c.in-Some.matches c.in_ok-call.ensures refl (rw c.in-Some.is at c.in_ok-matches.ensures.parsed) 2 (codes "cert") refl
 
 pub returns : goal.returns
 returns c =
-    let call = c.in_ok-call.call in
-    let m = c.in-Some.matches in
-    let words = map (λ w. w.now) c.args.words.now in
-    let e = c.in_ok-call.ensures in
-    let rows = rw c.in-Some.is at c.in_ok-matches.ensures.matches in
-    let faults = rw c.in-Some.is at c.in_ok-matches.ensures.faults in (
-      words_taken call check_call words e c.requires faults,
-      word_found call check_call m words (codes "tour") _ e rows c.in_ok-word_of.ensures,
-      word_found call check_call m words (codes "log") _ e rows c.in_ok-word_of-2.ensures,
-      word_found call check_call m words (codes "cert") _ e rows c.in_ok-word_of-3.ensures,
-    )
+    three_names_found c.in_ok-call.call check_call c.in-Some.matches (map (λ w. w.now) c.args.words.now) _ _ _ c.in_ok-call.ensures c.requires
+    (rw c.in-Some.is at c.in_ok-matches.ensures.faults) (rw c.in-Some.is at c.in_ok-matches.ensures.matches)
+    c.in_ok-word_of.ensures c.in_ok-word_of-2.ensures c.in_ok-word_of-3.ensures
