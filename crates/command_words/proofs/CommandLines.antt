@@ -14,7 +14,7 @@ use Rattle.clap.specs.declared.parser.matches.ArgMatches.{ArgMatches}
 use Rattle.clap.proofs.WalkLemmas.{first_value-rows}
 use Rattle.outside.specs.Outside.{Bytes}
 use Rattle.label_search.specs.declared.by_layers.TheConstants.{MOST_BUDGET}
-use Rattle.command_words.specs.declared.command.TheConstants.{MOST_MADE}
+use Rattle.report_text.specs.declared.maker.TheConstants.{MOST_MADE}
 use Rattle.command_words.specs.declared.command.Command as planner
 use Rattle.command_words.specs.declared.command.Command.TheVariants.{Plan, Check, Audit, Graph, Make}
 use Rattle.command_words.specs.Calls.{place, number_place, budget_option, plan_call, check_call, audit_call, graph_call, make_call}

@@ -16,7 +16,8 @@ use Rattle.clap.proofs.ValueTestLemmas.{accepts-Accepts, Accepts-accepts}
 use Rattle.outside.specs.Outside.{Bytes}
 use Rattle.label_search.specs.declared.by_layers.TheConstants.{MOST_BUDGET}
 use Rattle.command_words.specs.declared.command.Command.TheVariants.{Plan, Check, Audit, Graph, Make}
-use Rattle.command_words.specs.declared.command.TheConstants.{BUDGET, MOST_MADE}
+use Rattle.report_text.specs.declared.maker.TheConstants.{MOST_MADE}
+use Rattle.command_words.specs.declared.command.TheConstants.{BUDGET}
 use Rattle.command_words.specs.Calls.{call, place, number_place, budget_option}
 use Rattle.command_words.specs.Command.{Takes, HasWord, IsNumber, IsCommandLine}
 use Rattle.command_words.specs.Names.{IsPlainName}

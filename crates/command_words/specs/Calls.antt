@@ -5,7 +5,7 @@ use Rattle.clap.specs.Simple.{App, new_rule, new_shape}
 use Rattle.clap.specs.declared.builder.action.ArgAction.TheVariants.{Set}
 use Rattle.clap.specs.declared.builder.value_parser.ValueParser.TheVariants.{Unsigned}
 use Rattle.label_search.specs.declared.by_layers.TheConstants.{MOST_BUDGET}
-use Rattle.command_words.specs.declared.command.TheConstants.{MOST_MADE}
+use Rattle.report_text.specs.declared.maker.TheConstants.{MOST_MADE}
 
 -- a word that has to be there, in its place
 abbrev pub place : Text → Rule

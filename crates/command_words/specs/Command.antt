@@ -9,7 +9,7 @@ use Rattle.outside.specs.Outside.{Bytes}
 use Rattle.label_search.specs.declared.by_layers.TheConstants.{MOST_BUDGET}
 use Rattle.command_words.specs.declared.command.Command.{Command}
 use Rattle.command_words.specs.declared.command.Command.TheVariants.{Plan, Check, Audit, Graph, Make}
-use Rattle.command_words.specs.declared.command.TheConstants.{MOST_MADE}
+use Rattle.report_text.specs.declared.maker.TheConstants.{MOST_MADE}
 use Rattle.command_words.specs.Calls.{plan_call, check_call, audit_call, graph_call, make_call, calls}
 
 -- The first word is the command's name, and `clap` finds no fault with the words after it.

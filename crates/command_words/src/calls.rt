@@ -1,12 +1,12 @@
 //! What `clap` is told of each command.
 ghost use Rattle.std.specs.Prelude.{◌≡◌, [], false, codes, IfOk};
-ghost use Rattle.command_words.specs.declared.command.TheConstants.{MOST_MADE};
+ghost use Rattle.report_text.specs.declared.maker.TheConstants.{MOST_MADE};
 ghost use Rattle.clap.specs.Words.{app_of, rule_of, with_rule};
 ghost use Rattle.command_words.specs.Calls.{place, number_place, budget_option, call, plan_call, check_call, audit_call, graph_call, make_call};
 
-use crate::command::MOST_MADE;
 use clap::{Arg, ArgAction, Command, value_parser};
 use label_search::MOST_BUDGET;
+use report_text::MOST_MADE;
 use std::alloc::{AllocError, Global};
 
 /// A word that has to be there, in its place.

@@ -12,9 +12,6 @@ use std::alloc::Global;
 /// The most labels that a search may keep, where the words name no other number.
 pub const BUDGET: u32 = 200_000;
 
-/// The greatest number of a made tour.
-pub const MOST_MADE: u32 = 999_999;
-
 /// What the planner is to do, and the names of the files that it is for.
 #[derive(Drop)]
 pub enum Command {

@@ -4,7 +4,8 @@ ghost use Rattle.label_search.specs.declared.by_layers.TheConstants.{MOST_BUDGET
 ghost use Rattle.outside.specs.Outside.{Bytes};
 ghost use Rattle.command_words.specs.declared.command.Command.{Command};
 ghost use Rattle.command_words.specs.declared.command.Command.TheVariants.{Plan, Check, Audit, Graph, Make};
-ghost use Rattle.command_words.specs.declared.command.TheConstants.{BUDGET, MOST_MADE};
+ghost use Rattle.report_text.specs.declared.maker.TheConstants.{MOST_MADE};
+ghost use Rattle.command_words.specs.declared.command.TheConstants.{BUDGET};
 ghost use Rattle.command_words.specs.Command.{IsNumber, IsCommandLine};
 ghost use Rattle.command_words.specs.Names.{IsPlainName};
 

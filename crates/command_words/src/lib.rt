@@ -10,7 +10,7 @@ mod matched;
 #[cfg(test)]
 mod tests;
 
-pub use command::{BUDGET, Command, MOST_MADE, command_of};
+pub use command::{BUDGET, Command, command_of};
 pub use laws::{
     any_names_stand_after_two_hyphens, budgets_are_read, plain_forms_are_commands,
     words_ask_for_one_command,

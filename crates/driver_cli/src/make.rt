@@ -1,10 +1,10 @@
 //! A tour and a log that are made by number: put, and planned.
 ghost use Rattle.std.specs.Prelude.{◌≡◌, ◌*◌, ◌≤◌, length, IfOk};
-ghost use Rattle.command_words.specs.declared.command.TheConstants.{MOST_MADE};
 ghost use Rattle.duty_core.specs.Params.{unit_minutes};
 ghost use Rattle.duty_core.specs.declared.limits.TheConstants.{LONGEST_LOG};
 ghost use Rattle.made_tours.specs.Drawn.{IsMade};
 ghost use Rattle.report_text.specs.Made.{tour_made, log_made};
+ghost use Rattle.report_text.specs.declared.maker.TheConstants.{MOST_MADE};
 ghost use Rattle.tour_model.specs.declared.limits.TheConstants.{LONGEST_TOUR};
 ghost use Rattle.tour_model.specs.Schedule.{duration};
 ghost use Rattle.tour_model.specs.Tour.{IsTour};

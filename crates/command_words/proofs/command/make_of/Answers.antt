@@ -1,5 +1,5 @@
 use Rattle.std.proofs.Common.{map, refl, codes, arith}
-use Rattle.command_words.specs.declared.command.TheConstants.{MOST_MADE}
+use Rattle.report_text.specs.declared.maker.TheConstants.{MOST_MADE}
 use Rattle.command_words.specs.Calls.{make_call}
 use Rattle.command_words.proofs.CommandLines.{name_given, names_found, number_found, number_fits, made_number_given}
 use Rattle.command_words.proofs.command.make_of.Goals as goal
