@@ -1,4 +1,5 @@
 pub mod Counts
+pub mod Quarters
 pub mod RestRuns
 pub mod DeclaredRuns
 pub mod BaseLaws

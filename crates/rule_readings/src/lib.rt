@@ -18,6 +18,8 @@ mod ca_pair;
 mod ca_shift;
 #[cfg(test)]
 mod ca_tests;
+#[cfg(test)]
+mod cases;
 mod count;
 mod days;
 mod declared;
