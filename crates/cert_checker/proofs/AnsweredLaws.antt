@@ -21,6 +21,7 @@ use Rattle.cert_text.specs.Planning.{minute_of}
 use Rattle.cert_text.specs.Laws.ProblemOf.{minute_more}
 use Rattle.cert_text.specs.Laws.BetterLaws.{grown_from, grown_may, successor_by}
 use Rattle.cert_text.specs.Cover.{IsPruned, IsCovered, IsTooLong}
+use Rattle.cert_checker.proofs.LabelLaws.{not_so}
 use Rattle.cert_checker.specs.Conditions.{AreAnswered, AreCovered, IsPrunedAt, TakesLong}
 
 -- ---- the states of a step, one by one
@@ -78,6 +79,14 @@ all_answered problem target step layer l from xs t h g o =
 pub answered_by : {S : Type 0} (problem : Problem S) (target : Option ℕ) (step : ℕ) (layer : List (Label S)) (l : Label S) (from : ℕ) (xs : List Activity) (x : Activity) → problem.tries l.state ≡ xs → IsOneOf (Drive ∷ Serve ∷ xs) x →
     AreAnswered problem target step layer (successors_of problem from l) → AreAnswered problem target step layer (grown_by problem from l x)
 answered_by problem target step layer l from xs x t o h g i = h g (successor_by problem from l x g (subst (λ ys. IsOneOf (Drive ∷ Serve ∷ ys) x) (sym t) o) i)
+
+-- where those by one activity are not answered
+pub unanswered : {S : Type 0} (problem : Problem S) (target : Option ℕ) (step : ℕ) (layer : List (Label S)) (l : Label S) (from : ℕ) (xs : List Activity) (x : Activity) (b : Bool) → problem.tries l.state ≡ xs → IsOneOf (Drive ∷ Serve ∷ xs) x →
+    Decides b (AreAnswered problem target step layer (grown_by problem from l x)) → b ≡ false → Decides false (AreAnswered problem target step layer (successors_of problem from l))
+unanswered problem target step layer l from xs x b t o d e = (
+  (λ f. absurd (let g : false ≡ true = f in cc)),
+  (λ h. absurd (not_so b d e (answered_by problem target step layer l from xs x t o h))),
+)
 
 -- ---- the states of the successors
 

@@ -11,13 +11,14 @@ use Rattle.tour_model.specs.declared.label.Label.{Label}
 use Rattle.tour_model.specs.Layer.{layer_at}
 use Rattle.cert_text.specs.declared.cert.CertLabel.{CertLabel}
 use Rattle.cert_text.specs.Problem.{Problem}
-use Rattle.cert_text.specs.Cover.{IsLabelAt}
+use Rattle.cert_text.specs.Cover.{IsLabelAt, IsCovered, NoneCovers}
 use Rattle.tour_model.specs.declared.tour.Tour.{Tour}
 use Rattle.tour_model.specs.Word.{word_length}
 use Rattle.cert_text.specs.Planning.{minute_of}
 use Rattle.cert_checker.specs.declared.layer.LabelFault.{LabelFault}
 use Rattle.cert_checker.specs.declared.verdict.Rejection.{Rejection}
 use Rattle.cert_checker.specs.Parsed.{there, label_of, labels_of, AreStatesIn, HasLeft}
+use Rattle.cert_checker.proofs.ParsedLaws.{uncovered}
 use Rattle.cert_checker.specs.Conditions.{Passes, PassUpTo, IsFirstFault, IsFirstLabel, LayerPasses, LayersPass, layer_of, lines_before}
 
 pub label_from : {S : Type 0} (is_state : S → ℕ → Type 0) (goal step : ℕ) (l : Label S) → is_state l.state step → l.progress ≤ goal → HasLeft step l.progress l.depart → IsLabelAt is_state goal step l
@@ -28,6 +29,10 @@ label_left is_state goal step l h = record { still = h.still; departed = h.depar
 
 pub not_so : {P : Type 0} (b : Bool) → Decides b P → b ≡ false → P → ⊥
 not_so b d e p = absurd (let f : true ≡ false = sym (d.1 p) ∙ e in cc)
+
+-- no label is better than this one, where that was asked of an equal one
+pub none_better : {S : Type 0} (problem : Problem S) (step : ℕ) (layer : List (Label S)) (a l : Label S) (b : Bool) → a ≡ l → Decides b (IsCovered problem step layer a) → b ≡ false → NoneCovers problem step layer l
+none_better problem step layer a l b e d f = uncovered problem step layer l (subst (λ k. IsCovered problem step layer k → ⊥) e (not_so b d f))
 
 -- those before a place are among all
 pub states_before : {S : Type 0} (is_state : S → Type 0) (os : List (Option (Label S))) (i : ℕ) → AreStatesIn is_state os → AreStatesIn is_state (take i os)

@@ -1,6 +1,6 @@
 -- Labels read one by one, and looked through.
 use Rattle.std.proofs.Common.{◌≡◌, ℕ, ◌+◌, ◌<◌, ◌≤◌, Bool, true, false, List, [], ◌∷◌, ◌++◌, length, take, get_or, refl, sym, ◌∙◌, ap, subst, arith, inl, inr}
-use Rattle.std.specs.Prelude.{Option, None, Some, nat_le, map, if◌then◌else◌}
+use Rattle.std.specs.Prelude.{Option, None, Some, Result, Ok, Err, IfOk, nat_le, map, if◌then◌else◌}
 use Rattle.std.specs.Option.{option_to_list}
 use Rattle.std.proofs.lemmas.Bool.Decides.{nat_tests}
 use Rattle.std.proofs.lemmas.List.{take_more, take_all, map-append, flat_map_more}
@@ -11,6 +11,11 @@ use Rattle.cert_text.specs.declared.cert.CertLabel.{CertLabel}
 use Rattle.cert_text.specs.Problem.{Problem, is_better}
 use Rattle.cert_text.specs.Cover.{IsCovered, NoneCovers}
 use Rattle.cert_checker.specs.Parsed.{label_with, label_of, labels_of, there, AreStatesIn, AreWithin}
+
+-- what holds of a value that was made, by what is known of it
+pub ok_also : {T E : Type 0} (r : Result T E) (P Q : T → Type 0) → ((v : T) → P v → Q v) → IfOk r P → IfOk r Q
+ok_also (Ok v) P Q f h = f v h
+ok_also (Err e) P Q f h = tt
 
 -- one item more
 pub mapped_more : {X Y : Type 0} (f : X → Y) (xs : List X) (i : ℕ) (x : X) (y : Y) (a b : List Y) → i < length xs → x ≡ get_or xs i x → a ≡ map f (take i xs) → y ≡ f x → b ≡ a ++ y ∷ [] → b ≡ map f (take (i + 1) xs)

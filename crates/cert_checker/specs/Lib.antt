@@ -1,4 +1,5 @@
 pub mod Parsed
+pub mod Terms
 pub mod Places
 pub mod Conditions
 pub mod Followed

@@ -9,12 +9,15 @@ ghost use Rattle.tour_model.specs.Tour.{IsTour};
 ghost use Rattle.tour_model.specs.Way.{done};
 ghost use Rattle.tour_model.specs.Word.{word_length};
 ghost use Rattle.cert_text.specs.Problem.{departed, grown_by, successors_of};
-ghost use Rattle.cert_text.specs.Planning.{problem_of, minute_of};
-ghost use Rattle.cert_checker.specs.Parsed.{there, AreStatesIn};
+ghost use Rattle.cert_text.specs.Planning.{problem_of, state_at};
+ghost use Rattle.cert_checker.specs.Parsed.{there};
+ghost use Rattle.cert_checker.specs.Terms.{AreStatesAt, HasNext};
 ghost use Rattle.cert_checker.specs.Conditions.{AreAnswered, AreCovered, IsPrunedAt, TakesLong};
 
+use crate::asked::Asked;
 use crate::covered::is_covered;
 use crate::listing::Listing;
+use crate::terms::Terms;
 use cert_text::minute_at;
 use duty_core::{Activity, NoMemory, unit_of};
 use rule_core::{Idles, Next, Nexts, RuleBook};
@@ -77,112 +80,107 @@ pub fn progress_after(progress: u32, act: Activity) -> u32
 /// Whether one of the labels is better than one of this departure and progress in the state, where
 /// there is one.
 fn is_next_covered<B: RuleBook>(
-    book: &B,
-    tour: &Tour,
+    terms: &Terms<'_, B>,
     step: u32,
     labels: &Listing<B::State>,
     depart: Option<u32>,
     progress: u32,
     next: &Option<Next<B::State>>,
 ) -> bool
-    requires tour { IsTour tour.now }
-    requires labels { AreStatesIn (λ s. (B.machine book.now).is_state s (minute_of tour.now step)) labels.now }
-    requires state { (n : Next B.State) → IsOneOf (option_to_list next.now) n → (B.machine book.now).is_state n.state (minute_of tour.now step) }
+    requires tour { IsTour terms.now.tour.now }
+    requires labels { AreStatesAt terms.now (B.machine terms.now.book.now) step labels.now }
+    requires state { (n : Next B.State) → IsOneOf (option_to_list next.now) n → state_at terms.now.tour.now (B.machine terms.now.book.now) n.state step }
     requires step { step < STEP_LIMIT }
-    ensures { Decides result (AreCovered (problem_of tour.now (B.machine book.now)) step (there labels.now) depart progress (option_to_list next.now)) }
+    ensures { Decides result (AreCovered (problem_of terms.now.tour.now (B.machine terms.now.book.now)) step (there labels.now) depart progress (option_to_list next.now)) }
 {
     match next {
         None => true,
-        Some(next) => is_covered(book, tour, step, labels, depart, progress, &next.state),
+        Some(next) => {
+            let asked = Asked {
+                depart,
+                progress,
+                state: &next.state,
+            };
+            is_covered(terms, step, labels, &asked)
+        }
     }
 }
 
 /// Whether for each of the states, one of the labels is better than one of this departure and
 /// progress in it.
 fn are_nexts_covered<B: RuleBook>(
-    book: &B,
-    tour: &Tour,
+    terms: &Terms<'_, B>,
     step: u32,
     labels: &Listing<B::State>,
     depart: Option<u32>,
     progress: u32,
     nexts: &Nexts<B::State>,
 ) -> bool
-    requires tour { IsTour tour.now }
-    requires labels { AreStatesIn (λ s. (B.machine book.now).is_state s (minute_of tour.now step)) labels.now }
-    requires states { (n : Next B.State) → IsOneOf (listed nexts.now) n → (B.machine book.now).is_state n.state (minute_of tour.now step) }
+    requires tour { IsTour terms.now.tour.now }
+    requires labels { AreStatesAt terms.now (B.machine terms.now.book.now) step labels.now }
+    requires states { (n : Next B.State) → IsOneOf (listed nexts.now) n → state_at terms.now.tour.now (B.machine terms.now.book.now) n.state step }
     requires step { step < STEP_LIMIT }
-    ensures { Decides result (AreCovered (problem_of tour.now (B.machine book.now)) step (there labels.now) depart progress (listed nexts.now)) }
+    ensures { Decides result (AreCovered (problem_of terms.now.tour.now (B.machine terms.now.book.now)) step (there labels.now) depart progress (listed nexts.now)) }
 {
-    if !is_next_covered(book, tour, step, labels, depart, progress, &nexts.a) {
+    if !is_next_covered(terms, step, labels, depart, progress, &nexts.a) {
         return false;
     }
-    if !is_next_covered(book, tour, step, labels, depart, progress, &nexts.b) {
+    if !is_next_covered(terms, step, labels, depart, progress, &nexts.b) {
         return false;
     }
-    is_next_covered(book, tour, step, labels, depart, progress, &nexts.c)
+    is_next_covered(terms, step, labels, depart, progress, &nexts.c)
 }
 
 /// Whether the label's successors by the activity are answered: there is none where the tour does
 /// not allow it. All of them are pruned, or none is.
 fn are_answered_by<B: RuleBook>(
-    book: &B,
-    tour: &Tour,
-    target: Option<u32>,
+    terms: &Terms<'_, B>,
     step: u32,
     labels: &Listing<B::State>,
     label: &Label<B::State>,
     act: Activity,
 ) -> Result<bool, NoMemory>
-    requires tour { IsTour tour.now }
-    requires params { (B.machine book.now).params ≡ tour.now.params }
-    requires labels { AreStatesIn (λ s. (B.machine book.now).is_state s (minute_of tour.now (step + 1))) labels.now }
-    requires state { (B.machine book.now).is_state label.now.state (minute_of tour.now step) }
-    requires progress { label.now.progress < word_length tour.now }
-    requires step { step + 1 < STEP_LIMIT }
-    ensures { IfOk result (λ b. Decides b (AreAnswered (problem_of tour.now (B.machine book.now)) target (step + 1) (there labels.now) (grown_by (problem_of tour.now (B.machine book.now)) step label.now act))) }
+    requires next { HasNext terms.now (B.machine terms.now.book.now) step label.now labels.now }
+    requires progress { label.now.progress < terms.now.goal }
+    ensures { IfOk result (λ b. Decides b (AreAnswered (problem_of terms.now.tour.now (B.machine terms.now.book.now)) terms.now.target (step + 1) (there labels.now) (grown_by (problem_of terms.now.tour.now (B.machine terms.now.book.now)) step label.now act))) }
 {
-    if !tour.may_do(step, label.progress, act) {
+    if !terms.tour.may_do(step, label.progress, act) {
         return Ok(true);
     }
     let depart = departure(label.depart, act, step);
     let progress = progress_after(label.progress, act);
-    if is_pruned(tour, target, step + 1, depart, progress) {
+    if is_pruned(terms.tour, terms.target, step + 1, depart, progress) {
         return Ok(true);
     }
-    let units = tour.grid / unit_of(tour.params);
-    let nexts = book.advance(&label.state, minute_at(tour, step), act, units)?;
-    Ok(are_nexts_covered(book, tour, step + 1, labels, depart, progress, &nexts))
+    let units = terms.tour.grid / unit_of(terms.tour.params);
+    let at = minute_at(terms.tour, step);
+    let nexts = terms.book.advance(&label.state, at, act, units)?;
+    Ok(are_nexts_covered(terms, step + 1, labels, depart, progress, &nexts))
 }
+
 /// Whether each successor of the label is pruned, or one of the labels of the next step is better.
 pub fn are_answered<B: RuleBook>(
-    book: &B,
-    tour: &Tour,
-    target: Option<u32>,
+    terms: &Terms<'_, B>,
     step: u32,
     labels: &Listing<B::State>,
     label: &Label<B::State>,
 ) -> Result<bool, NoMemory>
-    requires tour { IsTour tour.now }
-    requires params { (B.machine book.now).params ≡ tour.now.params }
-    requires labels { AreStatesIn (λ s. (B.machine book.now).is_state s (minute_of tour.now (step + 1))) labels.now }
-    requires state { (B.machine book.now).is_state label.now.state (minute_of tour.now step) }
-    requires progress { label.now.progress < word_length tour.now }
-    requires step { step + 1 < STEP_LIMIT }
-    ensures { IfOk result (λ b. Decides b (AreAnswered (problem_of tour.now (B.machine book.now)) target (step + 1) (there labels.now) (successors_of (problem_of tour.now (B.machine book.now)) step label.now))) }
+    requires next { HasNext terms.now (B.machine terms.now.book.now) step label.now labels.now }
+    requires progress { label.now.progress < terms.now.goal }
+    ensures { IfOk result (λ b. Decides b (AreAnswered (problem_of terms.now.tour.now (B.machine terms.now.book.now)) terms.now.target (step + 1) (there labels.now) (successors_of (problem_of terms.now.tour.now (B.machine terms.now.book.now)) step label.now))) }
 {
-    let Idles { first, second } = book.idles(&label.state);
-    if !are_answered_by(book, tour, target, step, labels, label, Activity::Drive)? {
+    let Idles { first, second } = terms.book.idles(&label.state);
+    if !are_answered_by(terms, step, labels, label, Activity::Drive)? {
         return Ok(false);
     }
-    if !are_answered_by(book, tour, target, step, labels, label, Activity::Serve)? {
+    if !are_answered_by(terms, step, labels, label, Activity::Serve)? {
         return Ok(false);
     }
-    if !are_answered_by(book, tour, target, step, labels, label, first)? {
+    if !are_answered_by(terms, step, labels, label, first)? {
         return Ok(false);
     }
     match second {
         None => Ok(true),
-        Some(second) => are_answered_by(book, tour, target, step, labels, label, second),
+        Some(second) => are_answered_by(terms, step, labels, label, second),
     }
 }

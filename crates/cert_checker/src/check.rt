@@ -8,6 +8,7 @@ ghost use Rattle.tour_model.specs.Tour.{IsTour};
 ghost use Rattle.tour_model.specs.Word.{word_length};
 ghost use Rattle.cert_text.specs.Planning.{problem_of, minute_of};
 ghost use Rattle.cert_checker.specs.Parsed.{there};
+ghost use Rattle.cert_checker.specs.Terms.{AreTerms};
 ghost use Rattle.cert_checker.specs.Conditions.{layer_of};
 ghost use Rattle.cert_checker.specs.Rooted.{AreRooted};
 ghost use Rattle.cert_checker.specs.Verdicts.{IsSmallCert, IsVerdict, Proves, verdict_of, claim_line, layers_line, root_line};
@@ -16,6 +17,7 @@ use crate::claim::fault_of_claim;
 use crate::layers::first_label;
 use crate::parse::read_layer;
 use crate::roots::are_rooted;
+use crate::terms::Terms;
 use crate::verdict::{Reason, Rejection, SCHEDULE_LINE, Verdict};
 use cert_text::Cert;
 use duty_core::NoMemory;
@@ -60,19 +62,17 @@ fn root_line(cert: &Cert) -> u64
 /// and has done nothing.
 fn do_roots_hold<B: RuleBook>(
     alloc: Global,
-    book: &B,
-    tour: &Tour,
+    terms: &Terms<'_, B>,
     roots: &Roots<B::State>,
     cert: &Cert,
 ) -> Result<bool, NoMemory>
-    requires tour { IsTour tour.now }
-    requires params { (B.machine book.now).params ≡ tour.now.params }
-    requires roots { AreRootStates (B.machine book.now) (minute_of tour.now 0) roots.now }
-    ensures { IfOk result (λ b. Decides b (AreRooted (problem_of tour.now (B.machine book.now))
-        (there (layer_of (B.machine book.now).state_of tour.now (word_length tour.now) cert.now.layers 0)) roots.now)) }
+    requires terms { AreTerms terms.now (B.machine terms.now.book.now) }
+    requires roots { AreRootStates (B.machine terms.now.book.now) (minute_of terms.now.tour.now 0) roots.now }
+    ensures { IfOk result (λ b. Decides b (AreRooted (problem_of terms.now.tour.now (B.machine terms.now.book.now))
+        (there (layer_of (B.machine terms.now.book.now).state_of terms.now.tour.now (word_length terms.now.tour.now) cert.now.layers 0)) roots.now)) }
 {
-    let labels = read_layer(alloc, book, tour, tour.word_len(), cert.layers.items(), 0)?;
-    Ok(are_rooted(book, tour, &labels, roots.items()))
+    let labels = read_layer(alloc, terms, cert.layers.items(), 0)?;
+    Ok(are_rooted(terms, &labels, roots.items()))
 }
 
 /// What an accepted certificate says.
@@ -110,7 +110,13 @@ pub fn check_parsed<B: RuleBook>(
         let line = claim_line(cert, reason);
         return Ok(Verdict::Rejected { line, reason });
     }
-    if !do_roots_hold(alloc, book, tour, roots, cert)? {
+    let terms = Terms {
+        book,
+        tour,
+        goal: tour.word_len(),
+        target: cert.target,
+    };
+    if !do_roots_hold(alloc, &terms, roots, cert)? {
         let line = root_line(cert);
         return Ok(Verdict::Rejected {
             line,
@@ -118,7 +124,7 @@ pub fn check_parsed<B: RuleBook>(
         });
     }
     let first = layers_line(cert) + 1;
-    if let Some(failure) = first_label(alloc, book, tour, cert.target, first, &cert.layers)? {
+    if let Some(failure) = first_label(alloc, &terms, first, &cert.layers)? {
         let Rejection { line, reason } = failure;
         return Ok(Verdict::Rejected { line, reason });
     }

@@ -5,13 +5,16 @@ ghost use Rattle.tour_model.specs.Tour.{IsTour};
 ghost use Rattle.cert_text.specs.Problem.{later, is_better};
 ghost use Rattle.cert_text.specs.Planning.{problem_of, minute_of};
 ghost use Rattle.cert_text.specs.Cover.{IsCovered};
-ghost use Rattle.cert_checker.specs.Parsed.{there, AreStatesIn};
+ghost use Rattle.cert_checker.specs.Parsed.{there};
+ghost use Rattle.cert_checker.specs.Terms.{AreCompared};
 ghost use Rattle.cert_checker.specs.Places.{label_at, labels_at};
 
+use crate::asked::Asked;
 use crate::listing::Listing;
+use crate::terms::Terms;
 use cert_text::minute_at;
 use rule_core::RuleBook;
-use tour_model::{Label, Tour};
+use tour_model::Label;
 
 /// Whether the first departure is not earlier. None, for not yet, is later than all.
 fn departs_later(a: Option<u32>, b: Option<u32>) -> bool
@@ -24,128 +27,95 @@ fn departs_later(a: Option<u32>, b: Option<u32>) -> bool
     }
 }
 
-/// Whether the label is better than one of this departure, progress and state.
+/// Whether the label is better than the one asked about.
 fn is_better<B: RuleBook>(
-    book: &B,
-    tour: &Tour,
+    terms: &Terms<'_, B>,
     step: u32,
     label: &Label<B::State>,
-    depart: Option<u32>,
-    progress: u32,
-    state: &B::State,
+    asked: &Asked<'_, B::State>,
 ) -> bool
-    requires tour { IsTour tour.now }
-    requires label { (B.machine book.now).is_state label.now.state (minute_of tour.now step) }
-    requires state { (B.machine book.now).is_state state.now (minute_of tour.now step) }
+    requires tour { IsTour terms.now.tour.now }
+    requires label { (B.machine terms.now.book.now).is_state label.now.state (minute_of terms.now.tour.now step) }
+    requires asked { (B.machine terms.now.book.now).is_state asked.now.state (minute_of terms.now.tour.now step) }
     requires step { step < STEP_LIMIT }
-    ensures { result ≡ is_better (problem_of tour.now (B.machine book.now)) step label.now
-        (record { depart = depart; progress = progress; state = state.now }) }
+    ensures { result ≡ is_better (problem_of terms.now.tour.now (B.machine terms.now.book.now)) step label.now asked.now }
 {
-    label.progress == progress
-        && departs_later(label.depart, depart)
-        && book.covers(&label.state, state, minute_at(tour, step))
+    label.progress == asked.progress
+        && departs_later(label.depart, asked.depart)
+        && terms
+            .book
+            .covers(&label.state, asked.state, minute_at(terms.tour, step))
 }
 
-/// Whether the label at this place is there, and is better than one of this departure, progress and
-/// state.
+/// Whether the label at this place is there, and is better than the one asked about.
 fn is_better_at<B: RuleBook>(
-    book: &B,
-    tour: &Tour,
+    terms: &Terms<'_, B>,
     step: u32,
     labels: &[Option<Label<B::State>>],
     place: usize,
-    depart: Option<u32>,
-    progress: u32,
-    state: &B::State,
+    asked: &Asked<'_, B::State>,
 ) -> bool
-    requires tour { IsTour tour.now }
-    requires labels { AreStatesIn (λ s. (B.machine book.now).is_state s (minute_of tour.now step)) labels.now }
-    requires state { (B.machine book.now).is_state state.now (minute_of tour.now step) }
-    requires step { step < STEP_LIMIT }
-    ensures { Decides result (IsCovered (problem_of tour.now (B.machine book.now)) step (label_at labels.now place)
-        (record { depart = depart; progress = progress; state = state.now })) }
+    requires { AreCompared terms.now (B.machine terms.now.book.now) step labels.now asked.now }
+    ensures { Decides result (IsCovered (problem_of terms.now.tour.now (B.machine terms.now.book.now)) step (label_at labels.now place) asked.now) }
 {
     if place >= labels.len() {
         return false;
     }
     match &labels[place] {
         None => false,
-        Some(label) => is_better(book, tour, step, label, depart, progress, state),
+        Some(label) => is_better(terms, step, label, asked),
     }
 }
 
-/// Whether one of the labels at these places is better than one of this departure, progress and
-/// state.
+/// Whether one of the labels at these places is better than the one asked about.
 fn is_any_better<B: RuleBook>(
-    book: &B,
-    tour: &Tour,
+    terms: &Terms<'_, B>,
     step: u32,
     labels: &[Option<Label<B::State>>],
     places: &[usize],
-    depart: Option<u32>,
-    progress: u32,
-    state: &B::State,
+    asked: &Asked<'_, B::State>,
 ) -> bool
-    requires tour { IsTour tour.now }
-    requires labels { AreStatesIn (λ s. (B.machine book.now).is_state s (minute_of tour.now step)) labels.now }
-    requires state { (B.machine book.now).is_state state.now (minute_of tour.now step) }
-    requires step { step < STEP_LIMIT }
-    ensures { Decides result (IsCovered (problem_of tour.now (B.machine book.now)) step (labels_at labels.now places.now)
-        (record { depart = depart; progress = progress; state = state.now })) }
+    requires { AreCompared terms.now (B.machine terms.now.book.now) step labels.now asked.now }
+    ensures { Decides result (IsCovered (problem_of terms.now.tour.now (B.machine terms.now.book.now)) step (labels_at labels.now places.now) asked.now) }
 {
     for place in places {
-        if is_better_at(book, tour, step, labels, *place, depart, progress, state) {
+        if is_better_at(terms, step, labels, *place, asked) {
             return true;
         }
     }
     false
 }
 
-/// Whether one of the first `count` labels of the layer is better than one of this departure,
-/// progress and state.
+/// Whether one of the first `count` labels of the layer is better than the one asked about.
 pub fn is_covered_before<B: RuleBook>(
-    book: &B,
-    tour: &Tour,
+    terms: &Terms<'_, B>,
     step: u32,
     labels: &Listing<B::State>,
     count: usize,
-    depart: Option<u32>,
-    progress: u32,
-    state: &B::State,
+    asked: &Asked<'_, B::State>,
 ) -> bool
-    requires tour { IsTour tour.now }
-    requires labels { AreStatesIn (λ s. (B.machine book.now).is_state s (minute_of tour.now step)) labels.now }
+    requires asked { AreCompared terms.now (B.machine terms.now.book.now) step labels.now asked.now }
     requires count { count ≤ length labels.now }
-    requires state { (B.machine book.now).is_state state.now (minute_of tour.now step) }
-    requires step { step < STEP_LIMIT }
-    ensures { Decides result (IsCovered (problem_of tour.now (B.machine book.now)) step (there (take count labels.now))
-        (record { depart = depart; progress = progress; state = state.now })) }
+    ensures { Decides result (IsCovered (problem_of terms.now.tour.now (B.machine terms.now.book.now)) step (there (take count labels.now)) asked.now) }
 {
     if count == 0 {
         return false;
     }
     let before = &labels.items()[..count];
-    let places = labels.places(progress);
-    is_any_better(book, tour, step, before, places, depart, progress, state)
+    let places = labels.places(asked.progress);
+    is_any_better(terms, step, before, places, asked)
 }
 
-/// Whether some label of the layer is better than one of this departure, progress and state.
+/// Whether some label of the layer is better than the one asked about.
 pub fn is_covered<B: RuleBook>(
-    book: &B,
-    tour: &Tour,
+    terms: &Terms<'_, B>,
     step: u32,
     labels: &Listing<B::State>,
-    depart: Option<u32>,
-    progress: u32,
-    state: &B::State,
+    asked: &Asked<'_, B::State>,
 ) -> bool
-    requires tour { IsTour tour.now }
-    requires labels { AreStatesIn (λ s. (B.machine book.now).is_state s (minute_of tour.now step)) labels.now }
-    requires state { (B.machine book.now).is_state state.now (minute_of tour.now step) }
-    requires step { step < STEP_LIMIT }
-    ensures { Decides result (IsCovered (problem_of tour.now (B.machine book.now)) step (there labels.now)
-        (record { depart = depart; progress = progress; state = state.now })) }
+    requires { AreCompared terms.now (B.machine terms.now.book.now) step labels.now asked.now }
+    ensures { Decides result (IsCovered (problem_of terms.now.tour.now (B.machine terms.now.book.now)) step (there labels.now) asked.now) }
 {
     let count = labels.items().len();
-    is_covered_before(book, tour, step, labels, count, depart, progress, state)
+    is_covered_before(terms, step, labels, count, asked)
 }

@@ -3,6 +3,7 @@
 #![tactic(auto)]
 
 mod answered;
+mod asked;
 mod check;
 mod claim;
 mod covered;
@@ -13,6 +14,7 @@ mod layers;
 mod listing;
 mod parse;
 mod roots;
+mod terms;
 #[cfg(test)]
 mod tests;
 mod top;

@@ -4,14 +4,16 @@ ghost use Rattle.tour_model.specs.declared.limits.TheConstants.{STEP_LIMIT};
 ghost use Rattle.tour_model.specs.Layer.{layer_at};
 ghost use Rattle.tour_model.specs.Tour.{IsTour};
 ghost use Rattle.cert_text.specs.Planning.{minute_of};
-ghost use Rattle.cert_checker.specs.Parsed.{label_of, labels_of, AreStatesIn, AreWithin};
+ghost use Rattle.cert_checker.specs.Parsed.{label_of, labels_of, AreWithin};
+ghost use Rattle.cert_checker.specs.Terms.{AreStatesAt};
 
 use crate::listing::Listing;
+use crate::terms::Terms;
 use cert_text::{CertLabel, CertLabels, minute_at};
 use duty_core::{Minute, NoMemory};
 use rule_core::RuleBook;
 use std::alloc::Global;
-use tour_model::{Label, Tour};
+use tour_model::Label;
 
 /// The label, where its numbers are those of a state at this minute and its progress is at most
 /// `goal`.
@@ -56,21 +58,22 @@ fn read_labels<B: RuleBook>(
 /// The labels of the layer of this step, in their order: none where there is no such layer.
 pub fn read_layer<B: RuleBook>(
     alloc: Global,
-    book: &B,
-    tour: &Tour,
-    goal: u32,
+    terms: &Terms<'_, B>,
     layers: &[CertLabels],
     step: u32,
 ) -> Result<Listing<B::State>, NoMemory>
-    requires tour { IsTour tour.now }
+    requires tour { IsTour terms.now.tour.now }
     requires step { step < STEP_LIMIT }
-    ensures labels { IfOk result (λ list. list ≡ labels_of (B.machine book.now).state_of goal (minute_of tour.now step) (layer_at layers.now step)) }
-    ensures states { IfOk result (λ list. AreStatesIn (λ s. (B.machine book.now).is_state s (minute_of tour.now step)) list) }
-    ensures within { IfOk result (λ list. AreWithin goal list) }
+    ensures labels { IfOk result (λ list. list ≡ labels_of (B.machine terms.now.book.now).state_of terms.now.goal (minute_of terms.now.tour.now step) (layer_at layers.now step)) }
+    ensures states { IfOk result (AreStatesAt terms.now (B.machine terms.now.book.now) step) }
+    ensures within { IfOk result (AreWithin terms.now.goal) }
 {
-    let at = minute_at(tour, step);
+    let at = minute_at(terms.tour, step);
     match layers.get(step as usize) {
         None => Listing::new(alloc, Vec::new(alloc)),
-        Some(labels) => Listing::new(alloc, read_labels(alloc, book, goal, at, labels.items())?),
+        Some(labels) => Listing::new(
+            alloc,
+            read_labels(alloc, terms.book, terms.goal, at, labels.items())?,
+        ),
     }
 }

@@ -14,6 +14,7 @@ use Rattle.cert_checker.proofs.LabelLaws.{not_so}
 use Rattle.cert_checker.proofs.ValidLaws.{valid_from, valid_roots}
 use Rattle.cert_checker.proofs.TopLaws.{root_states, rooted_started, started_rooted, claim_fails, label_fails, accepted_is, verdict_proves}
 use Rattle.cert_checker.proofs.check.check_parsed.Goals as goal
+use Rattle.cert_checker.proofs.check.check_parsed.Goals.{In_ok-failure}
 
 pub do_roots_hold-requires-clause-roots : goal.do_roots_hold-requires-clause-roots
 do_roots_hold-requires-clause-roots g c =
@@ -54,47 +55,49 @@ returns-then-not-branch g c =
       proves = tt;
     }
 
+-- the claim holds, where no condition on it fails
+claim_holds : (g : _) (c : In_ok-failure g) → ClaimHolds c.args.tour.now c.args.log.now c.args.cert.now
+claim_holds g c =
+    subst (λ o. MatchOption o (ClaimHolds c.args.tour.now c.args.log.now c.args.cert.now) (λ r. (c.args.cert.now.kind ≡ Shortest) × StepsFail c.args.tour.now c.args.log.now c.args.cert.now (acts_of_runs c.args.cert.now.schedule) r))
+    c.in_default.is c.in_ok-reason.ensures
+
+-- the roots hold, where each is covered by the first layer
+roots_hold : (g : _) (c : In_ok-failure g) → RootsHold c.args.tour.now c.args.log.now (g.B.RuleBook.machine c.args.book.now) c.args.cert.now
+roots_hold g c =
+    let tour = c.args.tour.now in
+    let cert = c.args.cert.now in
+    let m = g.B.RuleBook.machine c.args.book.now in
+    let law = subst (λ params. IsBook params m) c.requires.params (g.met.B.RuleBook.laws c.args.book.now) in
+    rooted_started tour c.args.log.now m law c.requires.tour c.requires.short c.args.roots.now c.requires.roots (there (layer_of m.state_of tour (word_length tour) cert.layers 0))
+    (states_read m.is_state m.state_of m.numbers law.text.numbers_told (word_length tour) (minute_of tour 0) (layer_at cert.layers 0))
+    (c.in_ok-do_roots_hold.ensures.0 c.if-not-branch.false)
+
 pub returns-in-Some-2 : goal.returns-in-Some-2
 returns-in-Some-2 g c =
-    let book = c.args.book.now in
     let tour = c.args.tour.now in
     let log = c.args.log.now in
     let cert = c.args.cert.now in
-    let m = g.B.RuleBook.machine book in
-    let law = subst (λ params. IsBook params m) c.requires.params (g.met.B.RuleBook.laws book) in
-    let problem = problem_of tour m in
-    let claim = subst (λ o. MatchOption o (ClaimHolds tour log cert) (λ r. (cert.kind ≡ Shortest) × StepsFail tour log cert (acts_of_runs cert.schedule) r)) c.in_default.is c.in_ok-reason.ensures in
-    let layer = there (layer_of m.state_of tour (word_length tour) cert.layers 0) in
-    let roots : RootsHold tour log m cert =
-    rooted_started tour log m law c.requires.tour c.requires.short c.args.roots.now c.requires.roots layer
-    (states_read m.is_state m.state_of m.numbers law.text.numbers_told (word_length tour) (minute_of tour 0) (layer_at cert.layers 0))
-    (c.in_ok-do_roots_hold.ensures.0 c.if-not-branch.false) in
-    let found = subst (λ n. IsFirstLabel problem (state_at tour m) m.state_of tour cert.target cert.layers n c.in-Some-2.failure) (ap (λ n. n + 1) c.layers_line-first.ensures)
-    (subst (λ o. MatchOption o (LayersPass problem (state_at tour m) m.state_of tour cert.target cert.layers (length cert.layers)) (IsFirstLabel problem (state_at tour m) m.state_of tour cert.target cert.layers (c.layers_line-first.result + 1)))
+    let m = g.B.RuleBook.machine c.args.book.now in
+    let at = (goal.at.returns-in-Some-2 g c).In_ok-failure in
+    let found = subst (λ n. IsFirstLabel (problem_of tour m) (state_at tour m) m.state_of tour cert.target cert.layers n c.in-Some-2.failure) (ap (λ n. n + 1) c.layers_line-first.ensures)
+    (subst (λ o. MatchOption o (LayersPass (problem_of tour m) (state_at tour m) m.state_of tour cert.target cert.layers (length cert.layers)) (IsFirstLabel (problem_of tour m) (state_at tour m) m.state_of tour cert.target cert.layers (c.layers_line-first.result + 1)))
     c.in-Some-2.is c.in_ok-failure.ensures) in
     record {
-      verdict = ((λ v. label_fails tour log m cert (first_line cert) c.in-Some-2.failure found v), inr (claim, inr (roots, found)));
+      verdict = ((λ v. label_fails tour log m cert (first_line cert) c.in-Some-2.failure found v), inr (claim_holds g at, inr (roots_hold g at, found)));
       proves = tt;
     }
 
 pub returns : goal.returns
 returns g c =
-    let book = c.args.book.now in
     let tour = c.args.tour.now in
     let log = c.args.log.now in
     let cert = c.args.cert.now in
-    let m = g.B.RuleBook.machine book in
-    let law = subst (λ params. IsBook params m) c.requires.params (g.met.B.RuleBook.laws book) in
-    let problem = problem_of tour m in
-    let claim = subst (λ o. MatchOption o (ClaimHolds tour log cert) (λ r. (cert.kind ≡ Shortest) × StepsFail tour log cert (acts_of_runs cert.schedule) r)) c.in_default.is c.in_ok-reason.ensures in
-    let layer = there (layer_of m.state_of tour (word_length tour) cert.layers 0) in
-    let roots : RootsHold tour log m cert =
-    rooted_started tour log m law c.requires.tour c.requires.short c.args.roots.now c.requires.roots layer
-    (states_read m.is_state m.state_of m.numbers law.text.numbers_told (word_length tour) (minute_of tour 0) (layer_at cert.layers 0))
-    (c.in_ok-do_roots_hold.ensures.0 c.if-not-branch.false) in
-    let pass = subst (λ o. MatchOption o (LayersPass problem (state_at tour m) m.state_of tour cert.target cert.layers (length cert.layers)) (IsFirstLabel problem (state_at tour m) m.state_of tour cert.target cert.layers (c.layers_line-first.result + 1)))
+    let m = g.B.RuleBook.machine c.args.book.now in
+    let law = subst (λ params. IsBook params m) c.requires.params (g.met.B.RuleBook.laws c.args.book.now) in
+    let at = (goal.at.returns g c).In_ok-failure in
+    let pass = subst (λ o. MatchOption o (LayersPass (problem_of tour m) (state_at tour m) m.state_of tour cert.target cert.layers (length cert.layers)) (IsFirstLabel (problem_of tour m) (state_at tour m) m.state_of tour cert.target cert.layers (c.layers_line-first.result + 1)))
     c.in_default-2.is c.in_ok-failure.ensures in
-    let valid = valid_from tour log m cert claim roots pass in
+    let valid = valid_from tour log m cert (claim_holds g at) (roots_hold g at) pass in
     let verdict = accepted_is tour log m cert cert.target refl c.requires.cert valid in
     let says = subst (λ v. IsVerdict tour log m cert v) (sym c.accepted.ensures) verdict in
     record {

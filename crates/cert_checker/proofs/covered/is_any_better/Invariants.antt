@@ -6,5 +6,4 @@ use Rattle.cert_checker.proofs.covered.is_any_better.Given as goal
 
 abbrev pub invariant-loop-place : goal.invariant-loop-place
 invariant-loop-place g l =
-    NoneCovers (problem_of l.tour (g.B.RuleBook.machine l.book)) l.step (labels_at l.labels (take l.place-index l.places))
-    (record { depart = l.depart; progress = l.progress; state = l.state })
+    NoneCovers (problem_of l.terms.tour.now (g.B.RuleBook.machine l.terms.book.now)) l.step (labels_at l.labels (take l.place-index l.places)) l.asked

@@ -1,6 +1,5 @@
 use Rattle.std.proofs.Common.{◌≡◌, length, ap, subst, arith, Decides}
 use Rattle.std.proofs.lemmas.List.{take_all}
-use Rattle.tour_model.specs.declared.label.Label.{Label}
 use Rattle.cert_text.specs.Planning.{problem_of}
 use Rattle.cert_text.specs.Cover.{IsCovered}
 use Rattle.cert_checker.specs.Parsed.{there}
@@ -8,7 +7,7 @@ use Rattle.cert_checker.proofs.covered.is_covered.Goals as goal
 
 pub returns : goal.returns
 returns g c =
-    let problem = problem_of c.args.tour.now (g.B.RuleBook.machine c.args.book.now) in
-    let l : Label g.row.B-State.Denot = record { depart = c.args.depart; progress = c.args.progress; state = c.args.state.now } in
+    let problem = problem_of c.args.terms.now.tour.now (g.B.RuleBook.machine c.args.terms.now.book.now) in
+    let l = c.args.asked.now in
     let all : length c.items-count.result.now ≡ length c.args.labels.now = ap length c.items-count.ensures in
     subst (λ os. Decides c.is_covered_before.result (IsCovered problem c.args.step (there os) l)) (take_all (length c.items-count.result.now) c.args.labels.now (omega arith)) c.is_covered_before.ensures

@@ -20,16 +20,16 @@ fault_at-requires-clause-progress g c l e =
 
 pub loop-index-preserved : goal.loop-index-preserved
 loop-index-preserved g c =
-    let problem = problem_of c.args.tour.now (g.B.RuleBook.machine c.args.book.now) in
-    let is_state = state_at c.args.tour.now (g.B.RuleBook.machine c.args.book.now) in
+    let problem = problem_of c.args.terms.now.tour.now (g.B.RuleBook.machine c.args.terms.now.book.now) in
+    let is_state = state_at c.args.terms.now.tour.now (g.B.RuleBook.machine c.args.terms.now.book.now) in
     let os = c.args.labels.now in
     let i = c.loop-index.index in
     let earlier = there (take i os) in
     let next = there c.args.next.now in
     let lt : i < length os = subst (λ ys. i < length ys) c.loop-index.invariant.all c.loop-index-test.true in
     let read = subst (λ ys. c.label-item.result ≡ get_or ys i c.label-item.result) c.loop-index.invariant.all c.label-item.is in
-    let passes = subst (λ o. MatchOption o (Passes problem is_state c.args.target c.args.step earlier next c.label-item.result) (FailsBy problem is_state c.args.target c.args.step earlier next c.label-item.result)) c.in_default.is c.in_ok-reason.ensures in
+    let passes = subst (λ o. MatchOption o (Passes problem is_state c.args.terms.now.target c.args.step earlier next c.label-item.result) (FailsBy problem is_state c.args.terms.now.target c.args.step earlier next c.label-item.result)) c.in_default.is c.in_ok-reason.ensures in
     record {
       all = c.loop-index.invariant.all;
-      pass = pass_more problem is_state c.args.target c.args.step os next i c.loop-index.invariant.pass (subst (λ o. Passes problem is_state c.args.target c.args.step earlier next o) (get_or_read os i c.label-item.result lt read None) passes);
+      pass = pass_more problem is_state c.args.terms.now.target c.args.step os next i c.loop-index.invariant.pass (subst (λ o. Passes problem is_state c.args.terms.now.target c.args.step earlier next o) (get_or_read os i c.label-item.result lt read None) passes);
     }

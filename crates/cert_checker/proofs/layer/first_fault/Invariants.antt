@@ -7,5 +7,5 @@ use Rattle.cert_checker.proofs.layer.first_fault.Given as goal
 abbrev pub invariant-loop-index : goal.invariant-loop-index
 invariant-loop-index g l = record {
   all : l.label-items ≡ l.labels;
-  pass : PassUpTo (problem_of l.tour (g.B.RuleBook.machine l.book)) (state_at l.tour (g.B.RuleBook.machine l.book)) l.target l.step l.labels (there l.next) l.index;
+  pass : PassUpTo (problem_of l.terms.tour.now (g.B.RuleBook.machine l.terms.book.now)) (state_at l.terms.tour.now (g.B.RuleBook.machine l.terms.book.now)) l.terms.target l.step l.labels (there l.next) l.index;
 }

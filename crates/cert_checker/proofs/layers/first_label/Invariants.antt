@@ -9,8 +9,8 @@ abbrev pub invariant-loop-step : goal.invariant-loop-step
 invariant-loop-step g l = record {
   line : l.line ≡ l.first + lines_before l.fn.layers l.step;
   small : l.line ≤ l.first + l.step * 1000000;
-  read : l.labels ≡ layer_of (g.B.RuleBook.machine l.book).state_of l.tour (word_length l.tour) l.fn.layers l.step;
-  states : AreStatesIn (λ s. (g.B.RuleBook.machine l.book).is_state s (minute_of l.tour l.step)) l.labels;
-  within : AreWithin (word_length l.tour) l.labels;
-  pass : LayersPass (problem_of l.tour (g.B.RuleBook.machine l.book)) (state_at l.tour (g.B.RuleBook.machine l.book)) (g.B.RuleBook.machine l.book).state_of l.tour l.target l.fn.layers l.step;
+  read : l.labels ≡ layer_of (g.B.RuleBook.machine l.terms.book.now).state_of l.terms.tour.now (word_length l.terms.tour.now) l.fn.layers l.step;
+  states : AreStatesIn (λ s. (g.B.RuleBook.machine l.terms.book.now).is_state s (minute_of l.terms.tour.now l.step)) l.labels;
+  within : AreWithin l.terms.goal l.labels;
+  pass : LayersPass (problem_of l.terms.tour.now (g.B.RuleBook.machine l.terms.book.now)) (state_at l.terms.tour.now (g.B.RuleBook.machine l.terms.book.now)) (g.B.RuleBook.machine l.terms.book.now).state_of l.terms.tour.now l.terms.target l.fn.layers l.step;
 }

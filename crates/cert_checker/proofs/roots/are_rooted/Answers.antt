@@ -1,4 +1,4 @@
-use Rattle.std.proofs.Common.{◌≡◌, true, false, refl, sym, ◌∙◌, subst}
+use Rattle.std.proofs.Common.{◌≡◌, ◌<◌, true, false, refl, sym, ◌∙◌, subst, arith}
 use Rattle.std.proofs.lemmas.List.{take_all}
 use Rattle.rule_core.specs.declared.roots.Root.{Root}
 use Rattle.rule_core.specs.Reach.{IsOneOf}
@@ -10,8 +10,13 @@ use Rattle.cert_checker.specs.Parsed.{there}
 use Rattle.cert_checker.proofs.LabelLaws.{each_more}
 use Rattle.cert_checker.proofs.roots.are_rooted.Goals as goal
 
-pub is_covered-requires-clause-state : goal.is_covered-requires-clause-state
-is_covered-requires-clause-state g c = c.requires.roots c.root-item.result (one_of_item c.args.roots.now c.loop-root.root-index c.root-item.result c.loop-root-test.true c.root-item.is)
+pub is_covered-requires : goal.is_covered-requires
+is_covered-requires g c = record {
+  tour = c.requires.tour;
+  few = omega arith;
+  labels = c.requires.labels;
+  asked = c.requires.roots c.root-item.result (one_of_item c.args.roots.now c.loop-root.root-index c.root-item.result c.loop-root-test.true c.root-item.is);
+}
 
 pub returns-then-not-is_covered : goal.returns-then-not-is_covered
 returns-then-not-is_covered g c = (
@@ -21,7 +26,7 @@ returns-then-not-is_covered g c = (
 
 pub loop-root-preserved : goal.loop-root-preserved
 loop-root-preserved g c =
-    let problem = problem_of c.args.tour.now (g.B.RuleBook.machine c.args.book.now) in
+    let problem = problem_of c.args.terms.now.tour.now (g.B.RuleBook.machine c.args.terms.now.book.now) in
     each_more (λ (r : Root g.row.B-State.Denot). IsCovered problem 0 (there c.args.labels.now) (root_label r.state)) c.args.roots.now c.loop-root.root-index c.root-item.result c.loop-root-test.true c.root-item.is c.loop-root.invariant
     (c.is_covered.ensures.0 c.if-not-is_covered.false)
 

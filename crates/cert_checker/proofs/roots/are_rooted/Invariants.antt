@@ -6,4 +6,4 @@ use Rattle.cert_checker.proofs.roots.are_rooted.Given as goal
 
 abbrev pub invariant-loop-root : goal.invariant-loop-root
 invariant-loop-root g l =
-    AreRooted (problem_of l.tour (g.B.RuleBook.machine l.book)) (there l.labels) (take l.root-index l.roots)
+    AreRooted (problem_of l.terms.tour.now (g.B.RuleBook.machine l.terms.book.now)) (there l.labels) (take l.root-index l.roots)

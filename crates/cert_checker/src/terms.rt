@@ -1,0 +1,14 @@
+//! The terms of a check.
+
+use tour_model::Tour;
+
+/// What the labels of a certificate are checked by: the rule book, the tour, the progress of a
+/// finished label, and the steps that no schedule may go below. Where there is no target, no label
+/// may be finished.
+#[derive(Drop)]
+pub struct Terms<'a, B> {
+    pub book: &'a B,
+    pub tour: &'a Tour,
+    pub goal: u32,
+    pub target: Option<u32>,
+}
