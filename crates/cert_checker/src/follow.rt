@@ -1,5 +1,5 @@
 //! Whether a history is lawful with given marks.
-ghost use Rattle.std.specs.Prelude.{◌≡◌, ◌+◌, ◌*◌, ◌<◌, ◌≤◌, take, length, Decides, IfOk, OnOk};
+ghost use Rattle.std.specs.Prelude.{◌+◌, ◌<◌, ◌≤◌, length, Decides, IfOk, OnOk};
 ghost use Rattle.std.specs.Option.{option_to_list};
 ghost use Rattle.duty_core.specs.declared.limits.TheConstants.{MINUTE_LIMIT};
 ghost use Rattle.duty_core.specs.History.{IsTimed};
@@ -7,7 +7,7 @@ ghost use Rattle.duty_core.specs.Lawful.{IsLawfulWith};
 ghost use Rattle.duty_core.specs.Params.{unit_minutes};
 ghost use Rattle.rule_core.specs.Reach.{listed, IsOneOf};
 ghost use Rattle.cert_checker.specs.declared.follow.Held.{Held};
-ghost use Rattle.cert_checker.specs.Followed.{AddsNexts, AreAfter, AreHeld, HasAllUsed};
+ghost use Rattle.cert_checker.specs.Followed.{AddsNexts, AreAfter, HasAllUsed};
 
 use duty_core::{Activity, Mark, Minute, NoMemory, unit_of};
 use rule_core::{Next, Nexts, RuleBook};
