@@ -1,15 +1,10 @@
 -- From what is read of the bytes to what a check of them finds.
-use Rattle.std.proofs.Common.{◌≡◌, ℕ, ◌+◌, ◌<◌, ◌≤◌, Bool, List, [], ◌∷◌, length, get_or, take, drop, sym, ap, subst, arith, inl, inr}
-use Rattle.std.specs.Prelude.{zero, suc, Option, None, Some, Result, Ok, Err, MatchResult, IfErr, ◌⊎◌}
+use Rattle.std.proofs.Common.{◌≡◌, ℕ, ◌+◌, ◌<◌, List, [], ◌∷◌, length, get_or, take, drop, sym, ap, subst, arith, inl, inr}
+use Rattle.std.specs.Prelude.{zero, suc, Option, None, Some, Result, Ok, Err, MatchResult, IfErr}
 use Rattle.std.specs.List.{AllByRecursion}
-use Rattle.std.proofs.lemmas.Bool.{cases_lt}
 use Rattle.std.proofs.lemmas.List.{take-append-drop}
 use Rattle.duty_core.specs.declared.activity.Activity.{Activity}
 use Rattle.duty_core.specs.declared.params.Params.{Params}
-use Rattle.duty_core.specs.declared.params.Params.TheVariants.{UsProperty, Canada}
-use Rattle.duty_core.specs.declared.params.RestWay.{RestWay}
-use Rattle.duty_core.specs.declared.limits.TheConstants.{DAY_MINUTES, CA_CYCLE_1, CA_CYCLE_2}
-use Rattle.duty_core.specs.Params.{AreGoodParams}
 use Rattle.duty_core.specs.Laws.BookLaws.{front_lawful}
 use Rattle.duty_core.specs.Lawful.{IsLawful}
 use Rattle.rule_core.specs.Machine.{Machine}
@@ -32,7 +27,7 @@ use Rattle.cert_checker.specs.declared.verdict.Reason.{Reason}
 use Rattle.cert_checker.specs.declared.verdict.Reason.TheVariants as reason
 use Rattle.cert_checker.specs.declared.verdict.Verdict.{Verdict}
 use Rattle.cert_checker.specs.declared.verdict.Verdict.TheVariants as verdict
-use Rattle.cert_checker.specs.Books.{book_for}
+use Rattle.rule_books.specs.Books.{book_for}
 use Rattle.cert_checker.specs.Parsed.{there}
 use Rattle.cert_checker.specs.Conditions.{FailsBy, IsFirstLabel, layer_of}
 use Rattle.cert_checker.specs.Verdicts.{IsSmallCert, IsFirstFailure, IsOwnShortest, Proves, first_line}
@@ -143,20 +138,3 @@ pub follows_of : (tour : Tour) (log : List Activity) (bytes : List ℕ) (cert : 
 follows_of tour log bytes cert (verdict.Shortest steps) only p = λ other c. subst (λ k. IsOwnShortest tour log k steps) (only other c.1 c.0) p
 follows_of tour log bytes cert verdict.Infeasible only p = p
 follows_of tour log bytes cert (verdict.Rejected line why) only p = tt
-
--- ---- the parameters of the books
-
-one_of_two : (n low : ℕ) → low ≤ n → n ≤ low + 1 → (n ≡ low) ⊎ (n ≡ low + 1)
-one_of_two n low a b = elim (cases_lt n (low + 1)) [ inl less ↦ inl (omega arith) | inr more ↦ inr (omega arith) ]
-
-pub us_days : (params : Params) (berth : Bool) (days day_start : ℕ) → params ≡ UsProperty berth days day_start → AreGoodParams params → (days ≡ 7) ⊎ (days ≡ 8)
-us_days params berth days day_start e h = let good = subst AreGoodParams e h in one_of_two days 7 good.0 good.1
-
-pub us_start : (params : Params) (berth : Bool) (days day_start : ℕ) → params ≡ UsProperty berth days day_start → AreGoodParams params → day_start < 1440
-us_start params berth days day_start e h = (subst AreGoodParams e h).2
-
-pub canada_cycle : (params : Params) (berth : Bool) (way : RestWay) (cycle day_start : ℕ) → params ≡ Canada berth way cycle day_start → AreGoodParams params → (cycle ≡ CA_CYCLE_1) ⊎ (cycle ≡ CA_CYCLE_2)
-canada_cycle params berth way cycle day_start e h = let good = subst AreGoodParams e h in one_of_two cycle CA_CYCLE_1 good.0 good.1
-
-pub canada_start : (params : Params) (berth : Bool) (way : RestWay) (cycle day_start : ℕ) → params ≡ Canada berth way cycle day_start → AreGoodParams params → day_start < DAY_MINUTES
-canada_start params berth way cycle day_start e h = (subst AreGoodParams e h).2

@@ -13,7 +13,7 @@ use Rattle.cert_checker.specs.declared.verdict.Reason.{Reason}
 use Rattle.cert_checker.specs.declared.verdict.Reason.TheVariants as reason
 use Rattle.cert_checker.specs.declared.verdict.Verdict.{Verdict}
 use Rattle.cert_checker.specs.declared.verdict.Verdict.TheVariants as verdict
-use Rattle.cert_checker.specs.Books.{book_for}
+use Rattle.rule_books.specs.Books.{book_for}
 use Rattle.cert_checker.specs.Verdicts.{IsVerdict, IsFirstFailure, IsOwnShortest}
 
 -- The certificate is valid for the tour after the log, by the rule book of the tour's parameters.

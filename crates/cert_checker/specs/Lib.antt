@@ -5,5 +5,5 @@ pub mod Conditions
 pub mod Followed
 pub mod Rooted
 pub mod Verdicts
-pub mod Books
+pub mod Asked
 pub mod Checked

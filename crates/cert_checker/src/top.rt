@@ -6,19 +6,18 @@ ghost use Rattle.duty_core.specs.Params.{unit_minutes};
 ghost use Rattle.tour_model.specs.Schedule.{log_start};
 ghost use Rattle.tour_model.specs.Tour.{IsTour};
 ghost use Rattle.cert_checker.specs.Verdicts.{IsSmallCert, IsVerdict, Proves};
+ghost use Rattle.cert_checker.specs.Asked.{IsCheckable};
 ghost use Rattle.cert_checker.specs.Checked.{IsVerdictFor, IsCheck, Follows};
 
 use crate::check::check_parsed;
 use crate::verdict::{Reason, Verdict};
-use canada_rules::CanadaBook;
 use cert_text::{Cert, CertFault, read_cert};
-use duty_core::{NoMemory, Params, unit_of};
-use hvnl_rules::HvnlBook;
+use duty_core::{NoMemory, unit_of};
+use rule_books::{BookUser, with_book};
 use rule_core::{Replayed, RuleBook, replay};
 use std::alloc::Global;
 use timeline::Timeline;
 use tour_model::Tour;
-use us_rules::UsBook;
 
 /// Checks a certificate by a rule book.
 fn check_by<B: RuleBook>(
@@ -43,6 +42,27 @@ fn check_by<B: RuleBook>(
     }
 }
 
+/// A certificate to be checked, of a tour after a lawful log.
+#[derive(Drop)]
+struct CertCheck<'a> {
+    alloc: Global,
+    tour: &'a Tour,
+    log: &'a Timeline,
+    cert: &'a Cert,
+}
+
+impl BookUser for CertCheck<'_> {
+    type Answer = Result<Verdict, NoMemory>;
+
+    ghost asks = { λ self params. IsCheckable self.tour.now self.log.now self.cert.now params };
+
+    ghost gives = { λ self m answer. IfOk answer (IsVerdict self.tour.now self.log.now m self.cert.now) × IfOk answer (Proves self.tour.now self.log.now self.cert.now) };
+
+    fn use_book<B: RuleBook>(self, book: &B) -> Result<Verdict, NoMemory> {
+        check_by(self.alloc, book, self.tour, self.log, self.cert)
+    }
+}
+
 /// Checks a certificate by the rule book of the tour's parameters.
 fn check_read(alloc: Global, tour: &Tour, log: &Timeline, cert: &Cert) -> Result<Verdict, NoMemory>
     requires tour { IsTour tour.now }
@@ -52,26 +72,13 @@ fn check_read(alloc: Global, tour: &Tour, log: &Timeline, cert: &Cert) -> Result
     ensures verdict { IfOk result (IsVerdictFor tour.now log.now cert.now) }
     ensures proves { IfOk result (Proves tour.now log.now cert.now) }
 {
-    match tour.params {
-        Params::UsProperty {
-            berth,
-            days,
-            day_start,
-        } => {
-            let book = UsBook::new(berth, days, day_start);
-            check_by(alloc, &book, tour, log, cert)
-        }
-        Params::Canada {
-            berth,
-            way,
-            cycle,
-            day_start,
-        } => {
-            let book = CanadaBook::new(berth, way, cycle, day_start);
-            check_by(alloc, &book, tour, log, cert)
-        }
-        Params::Hvnl {} => check_by(alloc, &HvnlBook::new(alloc), tour, log, cert),
-    }
+    let check = CertCheck {
+        alloc,
+        tour,
+        log,
+        cert,
+    };
+    with_book(alloc, tour.params, check)
 }
 
 /// Checks the bytes of a certificate of the tour after the lawful log.

@@ -1,3 +1,2 @@
-pub mod ForParams
 pub mod Parents
 pub mod Proven

@@ -23,7 +23,7 @@ use Rattle.label_state.specs.Layers.{label_count}
 use Rattle.label_search.specs.declared.by_layers.TheConstants.{MOST_BUDGET}
 use Rattle.label_search.specs.Sound.{IsSound, IsWorked, HasLabels}
 use Rattle.label_search.specs.Searched.{HasSolution}
-use Rattle.cert_checker.specs.Books.{book_for}
+use Rattle.rule_books.specs.Books.{book_for}
 use Rattle.cert_checker.specs.Checked.{IsValidFor}
 use Rattle.tour_plan.specs.declared.planned.Planned.{Planned}
 use Rattle.tour_plan.specs.declared.planned.Planned.TheVariants.{Shortest, Infeasible, Spent, Unlawful}

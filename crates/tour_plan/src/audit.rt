@@ -5,16 +5,15 @@ ghost use Rattle.duty_core.specs.declared.limits.TheConstants.{LONGEST_LOG};
 ghost use Rattle.rule_core.specs.Replay.{IsFirstUnlawful};
 ghost use Rattle.tour_model.specs.Schedule.{log_start};
 ghost use Rattle.tour_model.specs.Tour.{IsTour};
+ghost use Rattle.tour_plan.specs.Asked.{IsAuditable};
 ghost use Rattle.tour_plan.specs.Planned.{IsLawfulLog};
 
-use canada_rules::CanadaBook;
-use duty_core::{Minute, NoMemory, Params, unit_of};
-use hvnl_rules::HvnlBook;
+use duty_core::{Minute, NoMemory, unit_of};
+use rule_books::{BookUser, with_book};
 use rule_core::{Replayed, RuleBook, replay};
 use std::alloc::Global;
 use timeline::Timeline;
 use tour_model::Tour;
-use us_rules::UsBook;
 
 /// The civil minute at which a log begins that ends where the tour starts.
 pub fn log_start(tour: &Tour, log: &Timeline) -> Minute
@@ -44,6 +43,26 @@ fn first_by<B: RuleBook>(
     }
 }
 
+/// A log to be audited, which ends where the tour starts.
+#[derive(Drop)]
+struct LogAudit<'a> {
+    alloc: Global,
+    tour: &'a Tour,
+    log: &'a Timeline,
+}
+
+impl BookUser for LogAudit<'_> {
+    type Answer = Result<Option<u32>, NoMemory>;
+
+    ghost asks = { λ self params. IsAuditable self.tour.now self.log.now params };
+
+    ghost gives = { λ self m answer. IfOk answer (λ found. MatchOption found (IsLawfulLog self.tour.now self.log.now) (IsFirstUnlawful self.tour.now.params (log_start self.tour.now self.log.now) self.log.now)) };
+
+    fn use_book<B: RuleBook>(self, book: &B) -> Result<Option<u32>, NoMemory> {
+        first_by(self.alloc, book, self.tour, self.log)
+    }
+}
+
 /// The unit of the log, counted from 0, up to which it breaks a rule of the tour's book with any
 /// marks, while up to each unit before it it is lawful with some. `None` exactly where the log, which
 /// ends where the tour starts, is lawful. `NoMemory` where there is none for the states that it leads
@@ -53,21 +72,5 @@ pub fn first_unlawful(alloc: Global, tour: &Tour, log: &Timeline) -> Result<Opti
     requires short { unit_minutes tour.now.params * length log.now ≤ LONGEST_LOG }
     ensures { IfOk result (λ found. MatchOption found (IsLawfulLog tour.now log.now) (IsFirstUnlawful tour.now.params (log_start tour.now log.now) log.now)) }
 {
-    match tour.params {
-        Params::UsProperty {
-            berth,
-            days,
-            day_start,
-        } => first_by(alloc, &UsBook::new(berth, days, day_start), tour, log),
-        Params::Canada {
-            berth,
-            way,
-            cycle,
-            day_start,
-        } => {
-            let book = CanadaBook::new(berth, way, cycle, day_start);
-            first_by(alloc, &book, tour, log)
-        }
-        Params::Hvnl {} => first_by(alloc, &HvnlBook::new(alloc), tour, log),
-    }
+    with_book(alloc, tour.params, LogAudit { alloc, tour, log })
 }

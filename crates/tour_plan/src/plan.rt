@@ -5,21 +5,20 @@ ghost use Rattle.duty_core.specs.declared.limits.TheConstants.{LONGEST_LOG};
 ghost use Rattle.rule_core.specs.Replay.{AreRootsOf};
 ghost use Rattle.tour_model.specs.Schedule.{log_start};
 ghost use Rattle.tour_model.specs.Tour.{IsTour};
+ghost use Rattle.tour_plan.specs.Asked.{IsPlannable};
 ghost use Rattle.tour_plan.specs.Planned.{IsBudget, IsLawfulLog, IsPlannedBy, IsPlanned};
 
 use crate::audit::log_start;
 use crate::certificate::bytes_of;
 use crate::planned::Planned;
-use canada_rules::CanadaBook;
-use duty_core::{NoMemory, Params};
-use hvnl_rules::HvnlBook;
+use duty_core::NoMemory;
 use label_search::{Searched, search};
+use rule_books::{BookUser, with_book};
 use rule_core::{Replayed, Roots, RuleBook, replay};
 use schedule_rebuild::rebuild;
 use std::alloc::Global;
 use timeline::Timeline;
 use tour_model::Tour;
-use us_rules::UsBook;
 
 /// Plans the tour by a rule book, after a lawful log that left these roots.
 fn plan_from<B: RuleBook>(
@@ -71,6 +70,27 @@ fn plan_by<B: RuleBook>(
     }
 }
 
+/// A tour to be planned after a log, with a budget of labels.
+#[derive(Drop)]
+struct TourPlan<'a> {
+    alloc: Global,
+    tour: &'a Tour,
+    log: &'a Timeline,
+    budget: u32,
+}
+
+impl BookUser for TourPlan<'_> {
+    type Answer = Result<Planned, NoMemory>;
+
+    ghost asks = { λ self params. IsPlannable self.tour.now self.log.now self.budget params };
+
+    ghost gives = { λ self m answer. IfOk answer (IsPlannedBy self.tour.now self.log.now m self.budget) };
+
+    fn use_book<B: RuleBook>(self, book: &B) -> Result<Planned, NoMemory> {
+        plan_by(self.alloc, book, self.tour, self.log, self.budget)
+    }
+}
+
 /// Plans the tour after the log, by the rule book of the tour's parameters.
 ///
 /// The log ends where the tour starts. `Unlawful` comes exactly where it is not lawful. Else, unless
@@ -90,24 +110,11 @@ pub fn plan_tour(
     requires budget { IsBudget budget }
     ensures { IfOk result (IsPlanned tour.now log.now budget) }
 {
-    match tour.params {
-        Params::UsProperty {
-            berth,
-            days,
-            day_start,
-        } => {
-            let book = UsBook::new(berth, days, day_start);
-            plan_by(alloc, &book, tour, log, budget)
-        }
-        Params::Canada {
-            berth,
-            way,
-            cycle,
-            day_start,
-        } => {
-            let book = CanadaBook::new(berth, way, cycle, day_start);
-            plan_by(alloc, &book, tour, log, budget)
-        }
-        Params::Hvnl {} => plan_by(alloc, &HvnlBook::new(alloc), tour, log, budget),
-    }
+    let plan = TourPlan {
+        alloc,
+        tour,
+        log,
+        budget,
+    };
+    with_book(alloc, tour.params, plan)
 }
