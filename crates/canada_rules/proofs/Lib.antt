@@ -1,2 +1,1 @@
 mod SumLaws
-pub mod NextLaws

@@ -1,5 +1,6 @@
 -- Sums of more and more days.
 use Rattle.std.proofs.Common.{◌≡◌, ℕ, ◌+◌, ◌<◌, ◌≤◌, Bool, true, false, List, [], ◌∷◌, length, slice_index_or, refl, ◌∙◌, subst, arith, zero, suc}
+use Rattle.std.proofs.lemmas.Bool.{and_from}
 use Rattle.std.specs.Prelude.{take, nat_eq, nat_le, ◌&&◌}
 use Rattle.std.proofs.lemmas.Bool.Decides.{nat_tests}
 use Rattle.std.proofs.lemmas.List.Sums.{sum_by-cons}
@@ -28,10 +29,6 @@ second_false : (a b : Bool) → b ≡ false → (a && b) ≡ false
 second_false true b h = h
 second_false false b h = refl
 
-both_true : (a b : Bool) → a ≡ true → b ≡ true → (a && b) ≡ true
-both_true true b h g = g
-both_true false b h g = h
-
 -- a test that fails so far fails in whole
 pub fails_on : (a b : List ℕ) (n m k : ℕ) → m ≡ n + k → sums_within n a b ≡ false → sums_within m a b ≡ false
 fails_on a b n m zero e h = subst (λ j. sums_within j a b ≡ false) (let z : n ≡ m = omega arith in z) h
@@ -42,7 +39,7 @@ pub one_more : (n m : ℕ) (a b : List ℕ) → suc n ≡ m → first_days (suc 
 one_more n m a b e l = subst (λ j. sums_within j a b ≡ false) e (second_false (sums_within n a b) (nat_le (first_days (suc n) a) (first_days (suc n) b)) (grind (arith, nat_tests)))
 
 pub one_less : (n m : ℕ) (a b : List ℕ) → suc n ≡ m → sums_within n a b ≡ true → first_days (suc n) a ≤ first_days (suc n) b → sums_within m a b ≡ true
-one_less n m a b e h l = subst (λ j. sums_within j a b ≡ true) e (both_true (sums_within n a b) (nat_le (first_days (suc n) a) (first_days (suc n) b)) h (grind (arith, nat_tests)))
+one_less n m a b e h l = subst (λ j. sums_within j a b ≡ true) e (and_from (sums_within n a b) (nat_le (first_days (suc n) a) (first_days (suc n) b)) h (grind (arith, nat_tests)))
 
 pub when_same : (m n : ℕ) (b : Bool) → m ≡ n → (nat_eq m n && b) ≡ b
 when_same m n b e = first_true (nat_eq m n) b (grind (arith, nat_tests))

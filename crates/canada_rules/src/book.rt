@@ -12,7 +12,7 @@ ghost use Rattle.canada_rules.specs.States.{IsCalendar};
 ghost use Rattle.canada_rules.specs.Book.{ca_book};
 ghost use Rattle.canada_rules.specs.Laws.BookLaws.{ca_laws};
 
-use crate::ends::{Ends, split_run};
+use crate::ends::{ends_of, split_run};
 use crate::numbers::{COUNTS, cycle_by, days_by};
 use crate::state::{Calendar, CanadaState, DayDuty};
 use cycles_deferral::{CanadaDays, CycleCount};
@@ -184,7 +184,7 @@ impl CanadaBook {
         let at_start = Mark::SplitRest {
             at: at.saturating_sub(state.split.run().long),
         };
-        let ends = Ends::of(self.may_split(), state.split, act);
+        let ends = ends_of(self.may_split(), state.split, act);
         Nexts {
             a: next_by(ends.plain, &calendar, mark),
             b: next_by(ends.split, &calendar, Some(at_start)),

@@ -1,22 +1,14 @@
 //! How the rest run in progress may end at a minute.
 ghost use Rattle.std.specs.Prelude.{◌≡◌, ◌≤◌, IfSome};
 ghost use Rattle.duty_core.specs.Activity.{drives};
+ghost use Rattle.sleeper_split.specs.declared.rule.TheConstants.SplitRule.{CANADA};
 ghost use Rattle.sleeper_split.specs.Machine.{IsSplitCount, run_of};
 ghost use Rattle.canada_rules.specs.Machine.{ca_fits};
-ghost use Rattle.canada_rules.specs.Ends.{duty_after, ends_made, ca_ends};
+ghost use Rattle.sleeper_split.specs.Ends.{duty_after, ends_of};
 ghost use Rattle.canada_rules.specs.Stretch.{IsFree, split_at_once};
 
 use duty_core::{Activity, CA_ELAPSED_LIMIT, CA_SHIFT_DRIVING_LIMIT, CA_SHIFT_DUTY_LIMIT, is_rest};
-use sleeper_split::{Since, SplitCount, SplitRule};
-
-/// The counts after one more minute, by how the rest run in progress ends: with no declaration, as
-/// a split rest, or as a full rest. Where none ends, the counts stand as the first.
-#[derive(Clone, Copy)]
-pub(crate) struct Ends {
-    pub(crate) plain: Option<SplitCount>,
-    pub(crate) split: Option<SplitCount>,
-    pub(crate) full: Option<SplitCount>,
-}
+use sleeper_split::{Ends, Since, SplitCount, SplitRule};
 
 /// Whether the counts keep driving, duty and elapsed time of the shift within their limits.
 fn fits(count: SplitCount) -> bool
@@ -30,7 +22,7 @@ fn fits(count: SplitCount) -> bool
 /// The counts after a minute of duty, where it keeps the limits.
 fn duty_after(count: Option<SplitCount>, act: Activity) -> Option<SplitCount>
     requires { IfSome count (λ s. IsSplitCount s × (run_of s ≡ 0)) }
-    ensures { result ≡ duty_after act count }
+    ensures { result ≡ duty_after ca_fits act count }
 {
     let count = count?;
     let driving = matches!(act, Activity::Drive);
@@ -54,38 +46,25 @@ pub(crate) fn split_run(count: SplitCount, act: Activity, n: u32) -> Option<Spli
     (!driving || fits(after)).then_some(after)
 }
 
-impl Ends {
-    /// How the run in progress may end at a minute of this activity. Rest goes on with it.
-    pub(crate) fn of(may: bool, count: SplitCount, act: Activity) -> Ends
-        requires { IsSplitCount count }
-        ensures { result ≡ ca_ends may count act }
-    {
-        if is_rest(act) {
-            return Ends::only(Some(count.rest(matches!(act, Activity::Berth))));
-        }
-        if count.run().long == 0 {
-            return Ends::only(duty_after(Some(count), act));
-        }
-        let split = if may {
-            duty_after(count.end_split(SplitRule::CANADA), act)
-        } else {
-            None
-        };
-        Ends {
-            plain: duty_after(count.end_undeclared(SplitRule::CANADA), act),
-            split,
-            full: duty_after(count.end_full(SplitRule::CANADA), act),
-        }
+/// How the run in progress may end at a minute of this activity. Rest goes on with it.
+pub(crate) fn ends_of(may: bool, count: SplitCount, act: Activity) -> Ends
+    requires { IsSplitCount count }
+    ensures { result ≡ ends_of CANADA may ca_fits count act }
+{
+    if is_rest(act) {
+        return Ends::only(Some(count.rest(matches!(act, Activity::Berth))));
     }
-
-    /// No run ends.
-    fn only(count: Option<SplitCount>) -> Ends
-        ensures { result ≡ ends_made count None None }
-    {
-        Ends {
-            plain: count,
-            split: None,
-            full: None,
-        }
+    if count.run().long == 0 {
+        return Ends::only(duty_after(Some(count), act));
+    }
+    let split = if may {
+        duty_after(count.end_split(SplitRule::CANADA), act)
+    } else {
+        None
+    };
+    Ends {
+        plain: duty_after(count.end_undeclared(SplitRule::CANADA), act),
+        split,
+        full: duty_after(count.end_full(SplitRule::CANADA), act),
     }
 }

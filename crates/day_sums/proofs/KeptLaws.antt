@@ -1,11 +1,11 @@
 -- What each call leaves of the numbers that are kept, and how large sums of them are.
-use Rattle.std.proofs.Common.{◌≡◌, ℕ, ◌+◌, ◌-◌, ◌*◌, ◌^◌, ◌<◌, ◌≤◌, List, [], ◌∷◌, ◌++◌, length, take, drop, refl, sym, ◌∙◌, ap, subst, arith, length-append, zero, suc, set, get_or, inl, inr}
+use Rattle.std.proofs.Common.{◌≡◌, ℕ, ◌+◌, ◌-◌, ◌^◌, ◌<◌, ◌≤◌, List, [], ◌∷◌, ◌++◌, length, take, drop, sym, ◌∙◌, ap, subst, arith, length-append, zero, suc, set, get_or, inl, inr}
 use Rattle.std.specs.Prelude.{sum, replicate, All}
 use Rattle.std.proofs.lemmas.List.{take_at, drop_at, length-take-le, length-replicate}
 use Rattle.std.proofs.lemmas.List.Elements.{All-take, All-cons}
 use Rattle.std.proofs.lemmas.List.Sums.{sum_by-le, sum_by-take-le}
 use Rattle.duty_core.specs.declared.limits.TheConstants.{DAY_MINUTES}
-use Rattle.day_sums.specs.Sums.{IsDays, added, rolled, today, AreSums, AreKept}
+use Rattle.day_sums.specs.Sums.{IsDays, today, AreSums, AreKept}
 use Rattle.day_sums.specs.Laws.SumLaws.{take_within}
 
 pub days_few : (days : ℕ) → IsDays days → days ≤ 14

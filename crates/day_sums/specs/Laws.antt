@@ -4,3 +4,4 @@ pub mod SumLaws
 pub mod Counted
 pub mod LeftLaws
 pub mod Now
+pub mod Within

@@ -1,5 +1,5 @@
 -- Successors and paths of a book's states.
-use Rattle.std.specs.Prelude.{◌≡◌, ℕ, ◌+◌, Bool, true, List, [], ◌∷◌, ◌++◌, ◌⊎◌}
+use Rattle.std.specs.Prelude.{◌≡◌, ℕ, ◌+◌, Bool, true, Option, List, [], ◌∷◌, ◌++◌, ◌⊎◌}
 use Rattle.std.specs.Option.{option_to_list}
 use Rattle.duty_core.specs.declared.activity.Activity.{Activity}
 use Rattle.duty_core.specs.declared.mark.Mark.{Mark}
@@ -10,6 +10,10 @@ use Rattle.rule_core.specs.declared.nexts.Idles.{Idles}
 -- the successors that are there
 abbrev pub listed : {S : Type 0} → Nexts S → List (Next S)
 listed n = option_to_list n.a ++ (option_to_list n.b ++ option_to_list n.c)
+
+-- three successors, each of which may be there
+abbrev pub nexts_made : {S : Type 0} → Option (Next S) → Option (Next S) → Option (Next S) → Nexts S
+nexts_made a b c = record { a = a; b = b; c = c }
 
 -- the idle activities, one or two
 abbrev pub idle_list : Idles → List Activity

@@ -68,7 +68,7 @@ impl Numbers {
         let before = self.numbers.len();
         let put = self.put_parts(first, second, third);
         if put.is_err() {
-            self.truncate(before);
+            self.numbers.truncate(before);
         }
         put
     }
@@ -81,13 +81,6 @@ impl Numbers {
         self.extend(first)?;
         self.extend(second)?;
         self.extend(third)
-    }
-
-    /// Leaves the first `n` numbers alone.
-    pub fn truncate(&mut self, n: usize)
-        ensures { self.new ≡ take n self.old }
-    {
-        self.numbers.truncate(n);
     }
 
     /// The numbers, in their order.

@@ -5,6 +5,7 @@ pub mod Exact
 pub mod TrackLaws
 pub mod Limits
 pub mod ChoiceLaws
+pub mod EndLaws
 pub mod ExactLaws
 pub mod CountryLaws
 pub mod CoverLaws
@@ -13,3 +14,5 @@ pub mod NumberLaws
 pub mod BetterLaws
 pub mod Runs
 pub mod MarkedTracks
+pub mod Places
+pub mod SameMarks

@@ -1,5 +1,6 @@
 pub mod Machine
 pub mod Choices
+pub mod Ends
 pub mod Tracks
 pub mod Exact
 pub mod Ways

@@ -4,6 +4,7 @@
 
 mod count;
 mod covers;
+mod ends;
 mod laws;
 mod numbers;
 mod rule;
@@ -11,6 +12,7 @@ mod rule;
 mod tests;
 
 pub use count::{OpenRun, Since, SplitCount, Used, WaitingRest};
+pub use ends::Ends;
 pub use laws::{
     is_exact_in_canada, is_exact_in_united_states, is_told_by_places, rests_safely,
     stands_for_plainly_worse, stands_in_order, stands_on, tells_of_history,

@@ -1,4 +1,4 @@
--- How the run in progress may end at a unit, as the counts after that unit; and the successors by these.
+-- The successors of a state, by the counts of split rests that are left.
 use Rattle.std.proofs.Common.{ℕ, Bool}
 use Rattle.std.specs.Prelude.{Option, None, Some}
 use Rattle.duty_core.specs.declared.activity.Activity.{Activity}
@@ -7,23 +7,16 @@ use Rattle.rule_core.specs.declared.nexts.Next.{Next}
 use Rattle.rule_core.specs.declared.nexts.Nexts.{Nexts}
 use Rattle.rule_core.specs.Reach.{listed}
 use Rattle.sleeper_split.specs.declared.count.SplitCount.{SplitCount}
-use Rattle.us_rules.specs.declared.ends.Ends.{Ends}
 use Rattle.us_rules.specs.declared.state.BreakCount.{BreakCount}
 use Rattle.us_rules.specs.declared.state.WeekCount.{WeekCount}
 use Rattle.us_rules.specs.declared.state.UsState.{UsState}
 use Rattle.us_rules.specs.Machine.{us_made, first_of, goes_on}
-
-abbrev pub ends_made : Option SplitCount → Option SplitCount → Option SplitCount → Ends
-ends_made plain split full = record { plain = plain; split = split; full = full }
 
 -- # Successors
 
 abbrev pub next_with : Option SplitCount → BreakCount → WeekCount → Option Mark → Option (Next UsState)
 next_with None rest_break week mark = None
 next_with (Some s) rest_break week mark = Some (record { state = us_made s rest_break week; mark = mark })
-
-abbrev pub nexts_made : Option (Next UsState) → Option (Next UsState) → Option (Next UsState) → Nexts UsState
-nexts_made a b c = record { a = a; b = b; c = c }
 
 -- # Many units
 

@@ -3,7 +3,6 @@ pub mod Padding
 pub mod BreakGuard
 pub mod WeekGuard
 pub mod Paths
-pub mod Places
 pub mod Exact
 pub mod States
 pub mod Advance

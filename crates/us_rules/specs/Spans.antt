@@ -11,11 +11,11 @@ use Rattle.sleeper_split.specs.declared.count.SplitCount.{SplitCount}
 use Rattle.sleeper_split.specs.Machine.{after_rest as rested_more, after_duty, end_undeclared, end_split, end_full, run_of}
 use Rattle.sleeper_split.specs.Runs.{repeated}
 use Rattle.sleeper_split.specs.Choices.{sleeps}
-use Rattle.us_rules.specs.declared.ends.Ends.{Ends}
+use Rattle.sleeper_split.specs.declared.ends.Ends.{Ends}
 use Rattle.us_rules.specs.declared.state.BreakCount.{BreakCount}
 use Rattle.us_rules.specs.declared.state.WeekCount.{WeekCount}
 use Rattle.us_rules.specs.Machine.{us_fits, break_made, week_made, begins_day}
-use Rattle.us_rules.specs.Ends.{ends_made}
+use Rattle.sleeper_split.specs.Ends.{ends_made}
 
 -- # What so many units of one day make of the counts
 

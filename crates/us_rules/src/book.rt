@@ -6,17 +6,17 @@ ghost use Rattle.duty_core.specs.Activity.{drives};
 ghost use Rattle.duty_core.specs.UsRules.{us_week_limit};
 ghost use Rattle.day_sums.specs.Sums.{today};
 ghost use Rattle.day_sums.specs.Counted.{turned};
-ghost use Rattle.rule_core.specs.Reach.{listed};
+ghost use Rattle.rule_core.specs.Reach.{nexts_made, listed};
 ghost use Rattle.us_rules.specs.Machine.{IsUsState, begins_day, day_so_far, us_advances, first_of, goes_on, week_covers};
 ghost use Rattle.us_rules.specs.Numbers.{us_state_of, holds_break_week};
-ghost use Rattle.us_rules.specs.Ends.{next_with, nexts_made, first_next, onward};
+ghost use Rattle.us_rules.specs.Ends.{next_with, first_next, onward};
 ghost use Rattle.us_rules.specs.Spans.{left_of_day, week_span};
 ghost use Rattle.us_rules.specs.Advance.{IsSteady};
 ghost use Rattle.us_rules.specs.Laws.States.{some_days, few_days};
 ghost use Rattle.us_rules.specs.Book.{us_book};
 ghost use Rattle.us_rules.specs.Laws.BookLaws.{us_laws};
 
-use crate::ends::Ends;
+use crate::ends::ends_of;
 use crate::numbers::COUNTS;
 use crate::state::{BreakCount, UsState, WeekCount};
 use day_sums::DaySums;
@@ -182,7 +182,7 @@ impl UsBook {
         let at_start = Mark::SplitRest {
             at: at.saturating_sub(state.split.run().long),
         };
-        let ends = Ends::of(self.berth, state.split, act, n);
+        let ends = ends_of(self.berth, state.split, act, n);
         Nexts {
             a: next_by(ends.plain, rest_break, &week, None),
             b: next_by(ends.split, rest_break, &week, Some(at_start)),

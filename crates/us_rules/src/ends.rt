@@ -3,20 +3,10 @@ ghost use Rattle.std.specs.Prelude.{◌≡◌, ◌≤◌, IfSome};
 ghost use Rattle.duty_core.specs.Activity.{drives};
 ghost use Rattle.sleeper_split.specs.Machine.{IsSplitCount, run_of};
 ghost use Rattle.us_rules.specs.Machine.{us_fits};
-ghost use Rattle.us_rules.specs.Ends.{ends_made};
 ghost use Rattle.us_rules.specs.Spans.{duty_span, ends_span};
 
 use duty_core::{Activity, US_DRIVING_LIMIT, US_WINDOW_LIMIT, is_rest};
-use sleeper_split::{Since, SplitCount, SplitRule};
-
-/// The counts after so many more minutes, by how the rest run in progress ends: with no declaration,
-/// as a split rest, or as a full rest. Where none ends, the counts stand as the first.
-#[derive(Clone, Copy)]
-pub(crate) struct Ends {
-    pub(crate) plain: Option<SplitCount>,
-    pub(crate) split: Option<SplitCount>,
-    pub(crate) full: Option<SplitCount>,
-}
+use sleeper_split::{Ends, Since, SplitCount, SplitRule};
 
 /// Whether the counts keep the window and the driving since the base.
 fn fits(count: SplitCount) -> bool
@@ -37,40 +27,27 @@ fn duty_after(count: Option<SplitCount>, act: Activity, n: u32) -> Option<SplitC
     (!driving || fits(after)).then_some(after)
 }
 
-impl Ends {
-    /// How the run in progress may end at the first of `n` minutes of this activity. Rest goes on
-    /// with it.
-    pub(crate) fn of(berth: bool, count: SplitCount, act: Activity, n: u32) -> Ends
-        requires count { IsSplitCount count }
-        requires some { 1 ≤ n }
-        ensures { result ≡ ends_span berth count act n }
-    {
-        if is_rest(act) {
-            return Ends::only(Some(count.rest_run(matches!(act, Activity::Berth), n)));
-        }
-        if count.run().long == 0 {
-            return Ends::only(duty_after(Some(count), act, n));
-        }
-        let split = if berth {
-            duty_after(count.end_split(SplitRule::US), act, n)
-        } else {
-            None
-        };
-        Ends {
-            plain: duty_after(count.end_undeclared(SplitRule::US), act, n),
-            split,
-            full: duty_after(count.end_full(SplitRule::US), act, n),
-        }
+/// How the run in progress may end at the first of `n` minutes of this activity. Rest goes on
+/// with it.
+pub(crate) fn ends_of(berth: bool, count: SplitCount, act: Activity, n: u32) -> Ends
+    requires count { IsSplitCount count }
+    requires some { 1 ≤ n }
+    ensures { result ≡ ends_span berth count act n }
+{
+    if is_rest(act) {
+        return Ends::only(Some(count.rest_run(matches!(act, Activity::Berth), n)));
     }
-
-    /// No run ends.
-    fn only(count: Option<SplitCount>) -> Ends
-        ensures { result ≡ ends_made count None None }
-    {
-        Ends {
-            plain: count,
-            split: None,
-            full: None,
-        }
+    if count.run().long == 0 {
+        return Ends::only(duty_after(Some(count), act, n));
+    }
+    let split = if berth {
+        duty_after(count.end_split(SplitRule::US), act, n)
+    } else {
+        None
+    };
+    Ends {
+        plain: duty_after(count.end_undeclared(SplitRule::US), act, n),
+        split,
+        full: duty_after(count.end_full(SplitRule::US), act, n),
     }
 }

@@ -37,7 +37,8 @@ use Rattle.canada_rules.specs.declared.state.CanadaState.{CanadaState}
 use Rattle.canada_rules.specs.Machine.{ca_fits, ca_may, begins_day, day_made, day_begun, day_after, ca_nexts, root_state, IsCanadaState}
 use Rattle.canada_rules.specs.Laws.Padding.{units_are, length_padding, place_begins}
 use Rattle.canada_rules.specs.Laws.DayGuard.{TracksDay, day_is_guard, tracks_day_root}
-use Rattle.canada_rules.specs.Laws.Paths.{led, AreNamed, CaReaches, IsCaPath}
+use Rattle.rule_core.specs.Laws.Guard.{led}
+use Rattle.canada_rules.specs.Laws.Paths.{AreNamed, CaReaches, IsCaPath}
 use Rattle.canada_rules.specs.Laws.Exact.{short_history, root_path, path_splits, path_days, path_cycle, path_same}
 use Rattle.canada_rules.specs.Laws.States.{root_is_ca_state, next_is_ca_state}
 use Rattle.canada_rules.specs.Covers.{covers_state}

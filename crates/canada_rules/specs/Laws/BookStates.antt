@@ -12,7 +12,8 @@ use Rattle.duty_core.specs.CaCycle.{cycle_days, cycle_reset}
 use Rattle.rule_core.specs.declared.nexts.Next.{Next}
 use Rattle.rule_core.specs.Reach.{IsOneOf}
 use Rattle.day_sums.specs.Sums.{added, cleared, today}
-use Rattle.day_sums.specs.Counted.{turned, after_rest}
+use Rattle.day_sums.specs.Counted.{turned}
+use Rattle.day_sums.specs.Laws.Within.{within_turned, within_added, within_rested}
 use Rattle.cycles_deferral.specs.declared.cycle.CycleCount.{CycleCount}
 use Rattle.cycles_deferral.specs.CycleMachine.{cycle_after}
 use Rattle.canada_rules.specs.declared.state.CanadaState.{CanadaState}
@@ -21,23 +22,6 @@ use Rattle.canada_rules.specs.Laws.CalendarSteps.{after_means}
 use Rattle.canada_rules.specs.Laws.Paths.{next_means}
 use Rattle.canada_rules.specs.Laws.States.{has_room, cycle_cases, root_is_ca_state, next_is_ca_state}
 use Rattle.canada_rules.specs.BookStates.{IsStateOf}
-
-within_turned : (turn : Bool) (sums : List ℕ) → All (λ n. n ≤ DAY_MINUTES) sums → All (λ n. n ≤ DAY_MINUTES) (turned turn sums)
-within_turned true sums h = All-take (λ n. n ≤ DAY_MINUTES) (length sums) (0 ∷ sums) (All-cons (λ n. n ≤ DAY_MINUTES) 0 sums (omega arith) h)
-within_turned false sums h = h
-
-within_cleared : (sums : List ℕ) → All (λ n. n ≤ DAY_MINUTES) (cleared sums)
-within_cleared sums = All-replicate (λ n. n ≤ DAY_MINUTES) (length sums) 0 (omega arith)
-
-within_added : (sums : List ℕ) → today sums + 1 ≤ DAY_MINUTES → All (λ n. n ≤ DAY_MINUTES) sums → All (λ n. n ≤ DAY_MINUTES) (added 1 sums)
-within_added [] l h = h
-within_added (x ∷ xs) l h = All-cons (λ n. n ≤ DAY_MINUTES) (x + 1) xs l (All-tail (λ n. n ≤ DAY_MINUTES) x xs h)
-
-within_rested : (reset run : ℕ) (sums : List ℕ) → All (λ n. n ≤ DAY_MINUTES) sums → All (λ n. n ≤ DAY_MINUTES) (after_rest reset run sums)
-within_rested reset run sums h = elim (cases_lt run reset) [
-  | inl l ↦ (let e : after_rest reset run sums ≡ sums = grind (arith, nat_tests) in subst (All (λ n. n ≤ DAY_MINUTES)) (sym e) h)
-  | inr l ↦ (let e : after_rest reset run sums ≡ cleared sums = grind (arith, nat_tests) in subst (All (λ n. n ≤ DAY_MINUTES)) (sym e) (within_cleared sums))
-]
 
 -- one more minute of a cycle
 cycle_goes : (start : ℕ) (c u : CycleCount) (at : ℕ) (x : Activity) → today c.sums ≤ day_so_far start at → All (λ n. n ≤ DAY_MINUTES) c.sums → cycle_after c x (begins_day start at) ≡ Some u →

@@ -1,7 +1,7 @@
 -- When a state may stand for another, and the idle activities to try.
 use Rattle.std.proofs.Common.{◌≡◌, ◌↔◌, ℕ, ◌+◌, ◌-◌, ◌≤◌, Bool, true, false, ◌&&◌, ◌||◌, List, length, refl, sym, ◌∙◌, subst, arith, ◌⊎◌, inl, inr, zero, suc}
 use Rattle.std.specs.Prelude.{Option, nat_eq, nat_le, not}
-use Rattle.std.proofs.lemmas.Bool.{cases_lt}
+use Rattle.std.proofs.lemmas.Bool.{or_cases, or_left, or_right, cases_lt}
 use Rattle.std.proofs.lemmas.Bool.Decides.{nat_tests}
 use Rattle.duty_core.specs.declared.activity.Activity.{Activity}
 use Rattle.duty_core.specs.declared.activity.Activity.TheVariants.{Drive, Serve, Wait, Off, Berth}
@@ -53,18 +53,6 @@ is_same a b h = grind (arith, nat_tests)
 
 same : (a b : ℕ) → nat_eq a b ≡ true → a ≡ b
 same a b h = grind (arith, nat_tests)
-
-or_cases : (a b : Bool) → (a || b) ≡ true → (a ≡ true) ⊎ (b ≡ true)
-or_cases true b h = inl refl
-or_cases false b h = inr h
-
-or_left : (a b : Bool) → a ≡ true → (a || b) ≡ true
-or_left true b h = refl
-or_left false b h = absurd (let z : false ≡ true = h in cc)
-
-or_right : (a b : Bool) → b ≡ true → (a || b) ≡ true
-or_right true b h = refl
-or_right false b h = h
 
 -- the driving and the duty of the day are no more
 pub record DayCovers (a b : DayDuty) : Type 0 where

@@ -21,7 +21,7 @@ use Rattle.duty_core.specs.Laws.UniqueLaws.{first_of_days_unique}
 use Rattle.duty_core.specs.Laws.CountBaseLaws.{has_first_at}
 use Rattle.duty_core.specs.Laws.RuleLaws.{ca_day13_is_rule, ca_day14_is_rule}
 use Rattle.duty_core.specs.CaDay.{MeetsCaDay13, MeetsCaDay14}
-use Rattle.rule_core.specs.Laws.Guard.{IsGuard}
+use Rattle.rule_core.specs.Laws.Guard.{not_driving, IsGuard}
 use Rattle.cycles_deferral.specs.Paths.{begins}
 use Rattle.cycles_deferral.specs.Laws.Tracks.{days_up_to}
 use Rattle.cycles_deferral.specs.Laws.CountryDays.{ca_day, are_days}
@@ -114,10 +114,6 @@ day_goes start first p d at x least e t =
           subst (λ c. TracksDay start first (p ++ x ∷ []) (day_more x c)) (sym (cond-false (begins_day start at) (day_made 0 0) d b))
           (same_day start first p x d (omega arith) t))
     ]
-
--- only driving is asked
-not_driving : (p : List Activity) (x : Activity) → drives x ≡ false → unit_at (p ++ x ∷ []) (length p) ≡ Drive → ⊥
-not_driving p x d e = let z : true ≡ false = sym (ap drives e) ∙ (ap drives (unit_at-last p x) ∙ d) in cc
 
 -- what is counted from the first place of the day
 counted : (test : Activity → Bool) (p : List Activity) (from n : ℕ) → count_by test (drop from (p ++ Drive ∷ [])) ≡ n → count_by test (drop from (take (length p + 1) (p ++ Drive ∷ []))) ≡ n

@@ -27,7 +27,7 @@ use Rattle.sleeper_split.specs.declared.rule.TheConstants.SplitRule.{CANADA}
 use Rattle.sleeper_split.specs.Machine.{fresh_count}
 use Rattle.sleeper_split.specs.Choices.{Declares}
 use Rattle.sleeper_split.specs.Laws.Growth.{contains_none}
-use Rattle.sleeper_split.specs.Laws.Alike.{AreMarkedAlike, split_marked, next_marked, base_marked}
+use Rattle.sleeper_split.specs.Laws.Alike.{base_marked}
 use Rattle.sleeper_split.specs.Exact.{MaySplit, KeepsSplits, IsPairOf}
 use Rattle.sleeper_split.specs.Laws.ExactLaws.{split_exact}
 use Rattle.sleeper_split.specs.Laws.CountryLaws.{canada_rule, canada_pair, IsCaSplittable, canada_may_split, canada_limit}
@@ -39,37 +39,16 @@ use Rattle.cycles_deferral.specs.Paths.{ca_pads, TakesDays, TakesCycle, AreDefer
 use Rattle.cycles_deferral.specs.Laws.CountryDays.{ca_day, NoDeferral, split_days, defer_days, pair_deferrals, cycle_rules}
 use Rattle.canada_rules.specs.declared.state.CanadaState.{CanadaState}
 use Rattle.canada_rules.specs.Machine.{ca_fits, ca_may, day_made, day_after, day_ok, root_state}
-use Rattle.canada_rules.specs.Laws.Padding.{pads_are, units_are, length_padding}
+use Rattle.canada_rules.specs.Laws.Padding.{ca_minutes, pads_are, units_are, length_padding}
 use Rattle.canada_rules.specs.Laws.DayGuard.{MeetsDay, TracksDay, day_is_guard, tracks_day_root}
-use Rattle.canada_rules.specs.Laws.Paths.{mark_at, AreNamed, named_same, IsMay, CaReaches, IsCaPath, ca_path, path_ca}
-use Rattle.canada_rules.specs.Laws.Places.{minute_means, means_minute, contains-map, HaveMinutes, marked_place, place_marked, marks_ordered, HasPlace, place_of, marks_again, places_have, places_ordered}
+use Rattle.canada_rules.specs.Laws.Paths.{AreNamed, named_same, IsMay, CaReaches, IsCaPath, ca_path, path_ca}
+use Rattle.sleeper_split.specs.Promises.{MeetsCanadaShift}
+use Rattle.sleeper_split.specs.Laws.SameMarks.{AreSame, same_back, marked_alike, paired_same, same_marks}
+use Rattle.sleeper_split.specs.Laws.Places.{mark_at, minute_means, means_minute, contains-map, HaveMinutes, marked_place, place_marked, marks_ordered, HasPlace, place_of, marks_again, places_have, places_ordered}
 
 -- # One history, its runs marked in two ways
 
--- The marks are those of runs that begin at these places.
-pub record AreSame (Marked Other : ℕ → Type 0) : Type 0 where
-  pub marks : (a : ℕ) → Marked a → Other a
-  pub back : (a : ℕ) → Other a → Marked a
-
-same_back : {Marked Other : ℕ → Type 0} → AreSame Marked Other → AreSame Other Marked
-same_back g = record { marks = g.back; back = g.marks }
-
-alike_itself : (p : List Activity) (n : ℕ) → AreAlike p p n
-alike_itself p n = record { fronts = λ k l. refl; units = λ k l. refl }
-
-marked_alike : (p : List Activity) (Marked Other : ℕ → Type 0) (n : ℕ) → AreSame Marked Other → AreMarkedAlike p Marked p Other n
-marked_alike p Marked Other n g = record { alike = alike_itself p n; marks = λ a b l r m. g.marks a m; back = λ a b l r m. g.back a m }
-
-paired_same : (p : List Activity) (Marked Other : ℕ → Type 0) (Pair : ℕ → ℕ → ℕ → ℕ → Type 0) (d : ℕ) → AreSame Marked Other → ArePairedAt CA_FULL_REST Pair p Marked d → ArePairedAt CA_FULL_REST Pair p Other d
-paired_same p Marked Other Pair d g h a b c s n =
-    let back = marked_alike p Other Marked (b + d + 1) (same_back g) in
-    h a b c (split_marked back (omega arith) s) (next_marked back (omega arith) n)
-
--- the shift, where a place of it is asked
-abbrev pub ca_holds : List Activity → (ℕ → Type 0) → ℕ → Type 0
-ca_holds p Marked i = MeetsCaShift13 p Marked i × (MeetsCaShift14 p Marked i × MeetsCaElapsed16 p Marked i)
-
-holds_same : (p : List Activity) (Marked Other : ℕ → Type 0) (i : ℕ) → AreSame Marked Other → ca_holds p Marked i → ca_holds p Other i
+holds_same : (p : List Activity) (Marked Other : ℕ → Type 0) (i : ℕ) → AreSame Marked Other → MeetsCanadaShift p Marked i → MeetsCanadaShift p Other i
 holds_same p Marked Other i g h =
     let back = marked_alike p Other Marked (i + 1) (same_back g) in (
       (λ e base omitted b. h.0 e base omitted (base_marked back (omega arith) b)),
@@ -86,7 +65,7 @@ pub record AreOfPlaces (berth : Bool) (way : RestWay) (cycle start first : ℕ) 
 
 -- what is asked of a history, with the places at which its split rests begin
 pub record KeepsByParts (berth : Bool) (way : RestWay) (cycle start first : ℕ) (h : List Activity) (starts : List ℕ) (marks : List Mark) : Type 0 where
-  pub splits : KeepsSplits CANADA (ca_may berth way) ca_holds (padded (Canada berth way cycle start) h) starts
+  pub splits : KeepsSplits CANADA (ca_may berth way) MeetsCanadaShift (padded (Canada berth way cycle start) h) starts
   pub day : (i : ℕ) → MeetsDay (ca_day start first) (padded (Canada berth way cycle start) h) i
   pub off : Keeps (Canada berth way cycle start) first h marks CaOff10
   pub defer : Keeps (Canada berth way cycle start) first h marks CaDefer
@@ -116,13 +95,13 @@ keeps_of_parts berth way cycle start first h starts marks m k =
     let params : Params = Canada berth way cycle start in
     let p : List Activity = padded params h in
     let Marked : ℕ → Type 0 = IsSplitAt params first marks in
-    let shift : (i : ℕ) → ca_holds p Marked i = (λ i. holds_same p (Contains starts) Marked i m.same (k.splits.limits i)) in
+    let shift : (i : ℕ) → MeetsCanadaShift p Marked i = (λ i. holds_same p (Contains starts) Marked i m.same (k.splits.limits i)) in
     let pair : Keeps params first h marks CaPair = record {
       splits = λ at i.
           let q = m.placed at i in
           let s = (canada_may_split berth way cycle start p q.0).0 (k.splits.splits q.0 q.1) in
           record { from = q.0; minute = q.2; run = s.run; berth = s.berth; split_way = s.split_way };
-      pairs = λ d. paired_same p (Contains starts) Marked (IsCaPair p) d m.same (λ a b c s n. (canada_pair p a b c d).0 (k.splits.pairs d a b c s n));
+      pairs = λ d. paired_same CA_FULL_REST p (Contains starts) Marked (IsCaPair p) d m.same (λ a b c s n. (canada_pair p a b c d).0 (k.splits.pairs d a b c s n));
     } in
     record {
       marks_of_book = m.order;
@@ -132,7 +111,7 @@ keeps_of_parts berth way cycle start first h starts marks m k =
 -- the rules of a history that keeps them all
 pub record HasRules (berth : Bool) (way : RestWay) (cycle start first : ℕ) (h : List Activity) (marks : List Mark) : Type 0 where
   pub day : (i : ℕ) → MeetsDay (ca_day start first) (padded (Canada berth way cycle start) h) i
-  pub shift : (i : ℕ) → ca_holds (padded (Canada berth way cycle start) h) (IsSplitAt (Canada berth way cycle start) first marks) i
+  pub shift : (i : ℕ) → MeetsCanadaShift (padded (Canada berth way cycle start) h) (IsSplitAt (Canada berth way cycle start) first marks) i
   pub pair : MeetsCaPair (Canada berth way cycle start) first (padded (Canada berth way cycle start) h) marks
   pub off : Keeps (Canada berth way cycle start) first h marks CaOff10
   pub defer : Keeps (Canada berth way cycle start) first h marks CaDefer
@@ -165,8 +144,8 @@ mark_may_split : (berth : Bool) (way : RestWay) (cycle start first : ℕ) (p : L
     IsSplitAt (Canada berth way cycle start) first marks a → MaySplit CANADA (ca_may berth way) p a
 mark_may_split berth way cycle start first p marks a pair m =
     let s = pair.splits m.at m.marked in
-    let e = minute_means berth way cycle start first m.at a m.minute in
-    let f = minute_means berth way cycle start first m.at s.from s.minute in
+    let e = minute_means (Canada berth way cycle start) first m.at a (ca_minutes berth way cycle start) m.minute in
+    let f = minute_means (Canada berth way cycle start) first m.at s.from (ca_minutes berth way cycle start) s.minute in
     let one : s.from ≡ a = omega arith in
     let whole : IsCaSplittable (Canada berth way cycle start) p s.from = record { run = s.run; berth = s.berth; split_way = s.split_way } in
     (canada_may_split berth way cycle start p a).1 (subst (IsCaSplittable (Canada berth way cycle start) p) one whole)
@@ -181,7 +160,7 @@ parts_of_keeps berth way cycle start first h starts marks order same k =
       splits = record {
         order = order;
         splits = λ a i. mark_may_split berth way cycle start first p marks a k.pair (same.marks a i);
-        pairs = λ d. paired_same p Marked (Contains starts) (IsPairOf CANADA p) d (same_back same) (λ a b c s n. (canada_pair p a b c d).1 (k.pair.pairs d a b c s n));
+        pairs = λ d. paired_same CA_FULL_REST p Marked (Contains starts) (IsPairOf CANADA p) d (same_back same) (λ a b c s n. (canada_pair p a b c d).1 (k.pair.pairs d a b c s n));
         limits = λ i. holds_same p Marked (Contains starts) i (same_back same) (k.shift i);
       };
       day = k.day;
@@ -216,12 +195,6 @@ split_after berth way cycle start h a s = elim (cases_lt a PADDING_MINUTES) [
 pub starts_have : (berth : Bool) (way : RestWay) (cycle start first : ℕ) (h : List Activity) (starts : List ℕ) → ((a : ℕ) → Contains starts a → MaySplit CANADA (ca_may berth way) (padded (Canada berth way cycle start) h) a) → HaveMinutes first starts
 starts_have berth way cycle start first h starts s k i = let l = split_after berth way cycle start h k (s k i) in omega arith
 
-same_marks : (berth : Bool) (way : RestWay) (cycle start first : ℕ) (starts : List ℕ) → HaveMinutes first starts → AreSame (Contains starts) (IsSplitAt (Canada berth way cycle start) first (map (mark_at first) starts))
-same_marks berth way cycle start first starts have = record {
-  marks = λ a i. place_marked berth way cycle start first starts a have i;
-  back = λ a i. marked_place berth way cycle start first starts a have i;
-}
-
 no_deferral : (first : ℕ) (starts : List ℕ) → NoDeferral (map (mark_at first) starts)
 no_deferral first starts = record {
   none = λ day i. let q = contains-map (mark_at first) starts (DeferDay day) i in let z : SplitRest (first + q.0 - PADDING_MINUTES) ≡ DeferDay day = q.2 in cc;
@@ -229,20 +202,20 @@ no_deferral first starts = record {
 
 split_places : (berth : Bool) (way : RestWay) (cycle start first : ℕ) (starts : List ℕ) → HaveMinutes first starts → AllPairs (λ a b. a < b) starts → AreOfPlaces berth way cycle start first starts (map (mark_at first) starts)
 split_places berth way cycle start first starts have order = record {
-  order = marks_ordered berth way cycle start first starts have order;
-  same = same_marks berth way cycle start first starts have;
+  order = marks_ordered (Canada berth way cycle start) first starts have order;
+  same = same_marks (Canada berth way cycle start) first starts (ca_minutes berth way cycle start) have;
   placed = λ at i.
       let q = contains-map (mark_at first) starts (SplitRest at) i in
       let e : first + q.0 - PADDING_MINUTES ≡ at = (let z : SplitRest (first + q.0 - PADDING_MINUTES) ≡ SplitRest at = q.2 in cc) in
       let l = have q.0 q.1 in
-      (q.0, q.1, means_minute berth way cycle start first at q.0 (omega arith));
+      (q.0, q.1, means_minute (Canada berth way cycle start) first at q.0 (ca_minutes berth way cycle start) (omega arith));
 }
 
 -- the places of the marks of a lawful history under `split`
 marks_placed : (berth : Bool) (cycle start first : ℕ) (h : List Activity) (marks : List Mark) → HasRules berth Split cycle start first h marks → (m : Mark) → Contains marks m → HasPlace first m
 marks_placed berth cycle start first h marks k (SplitRest at) i =
     let s = k.pair.splits at i in
-    let e = minute_means berth Split cycle start first at s.from s.minute in
+    let e = minute_means (Canada berth Split cycle start) first at s.from (ca_minutes berth Split cycle start) s.minute in
     omega arith
 marks_placed berth cycle start first h marks k (DeferDay day) i = absurd (let w = (k.defer day i).defer_way in let z : Split ≡ Defer = w in cc)
 
@@ -282,10 +255,10 @@ pub path_splits : (berth : Bool) (way : RestWay) (cycle start first : ℕ) (h : 
 path_splits berth way cycle start first h marks u q = subst (λ n. Declares CANADA (ca_may berth way) ca_fits fresh_count n h q.starts u.split) (sym (units_are berth way cycle start)) q.declares
 
 pub path_keeps_splits : (berth : Bool) (way : RestWay) (cycle start first : ℕ) (h : List Activity) (marks : List Mark) (u : CanadaState) → IsTimed (Canada berth way cycle start) first h →
-    (q : IsCaPath (ca_may berth way) way start first (root_state way cycle) first PADDING_MINUTES h marks u) → KeepsSplits CANADA (ca_may berth way) ca_holds (padded (Canada berth way cycle start) h) q.starts
+    (q : IsCaPath (ca_may berth way) way start first (root_state way cycle) first PADDING_MINUTES h marks u) → KeepsSplits CANADA (ca_may berth way) MeetsCanadaShift (padded (Canada berth way cycle start) h) q.starts
 path_keeps_splits berth way cycle start first h marks u timed q =
     let pads = units_are berth way cycle start in
-    (split_exact CANADA (ca_may berth way) ca_fits ca_holds (pad_units (Canada berth way cycle start)) h q.starts canada_rule canada_limit (omega arith) (short_history berth way cycle start first h timed)).0
+    (split_exact CANADA (ca_may berth way) ca_fits MeetsCanadaShift (pad_units (Canada berth way cycle start)) h q.starts canada_rule canada_limit (omega arith) (short_history berth way cycle start first h timed)).0
     (u.split, path_splits berth way cycle start first h marks u q)
 
 -- the days of a path, from the place after the padding as it is told of every book
@@ -323,7 +296,7 @@ parts_of_path berth Split cycle start first h marks u least timed q =
     }
 parts_of_path berth Defer cycle start first h marks u least timed q =
     let k = path_keeps_splits berth Defer cycle start first h marks u timed q in
-    let splits : KeepsSplits CANADA (ca_may berth Defer) ca_holds (padded (Canada berth Defer cycle start) h) [] = subst (KeepsSplits CANADA (ca_may berth Defer) ca_holds (padded (Canada berth Defer cycle start) h)) q.named.0 k in
+    let splits : KeepsSplits CANADA (ca_may berth Defer) MeetsCanadaShift (padded (Canada berth Defer cycle start) h) [] = subst (KeepsSplits CANADA (ca_may berth Defer) MeetsCanadaShift (padded (Canada berth Defer cycle start) h)) q.named.0 k in
     let days : TakesDays (ca_day start first) (fresh_days Defer) PADDING_MINUTES h marks u.calendar.days = subst (λ ms. TakesDays (ca_day start first) (fresh_days Defer) PADDING_MINUTES h ms u.calendar.days) (sym q.named.1) q.days in
     let off = (defer_days berth cycle start first h marks).0 (u.calendar.days, path_days Defer start first h marks u.calendar.days days) in
     let cyc = (cycle_rules berth Defer cycle start first h marks).0 (u.calendar.cycle, path_cycle cycle start first h u.calendar.cycle q.cycle) in
@@ -363,13 +336,13 @@ named_of_keeps berth Split cycle start first h marks k =
     let named : marks ≡ map (mark_at first) starts = marks_again first marks placed in
     let have : HaveMinutes first starts = places_have first marks placed in
     let same : AreSame (Contains starts) (IsSplitAt (Canada berth Split cycle start) first marks) =
-    subst (λ ms. AreSame (Contains starts) (IsSplitAt (Canada berth Split cycle start) first ms)) (sym named) (same_marks berth Split cycle start first starts have) in
+    subst (λ ms. AreSame (Contains starts) (IsSplitAt (Canada berth Split cycle start) first ms)) (sym named) (same_marks (Canada berth Split cycle start) first starts (ca_minutes berth Split cycle start) have) in
     let none : NoDeferral marks = subst NoDeferral (sym named) (no_deferral first starts) in
     record {
       starts = starts;
       deferred = [];
       named = (refl, named);
-      parts = parts_of_keeps berth Split cycle start first h starts marks (places_ordered berth Split cycle start first marks placed k.marks_of_book) same r;
+      parts = parts_of_keeps berth Split cycle start first h starts marks (places_ordered (Canada berth Split cycle start) first marks placed k.marks_of_book) same r;
       days = (split_days berth cycle start first h marks none).1 (r.off, r.defer);
     }
 named_of_keeps berth Defer cycle start first h marks k =
@@ -391,7 +364,7 @@ ca_whole berth way cycle start first h marks least timed l =
     let may : Bool = ca_may berth way in
     let q = named_of_keeps berth way cycle start first h marks l in
     let pads = units_are berth way cycle start in
-    let k = (split_exact CANADA may ca_fits ca_holds (pad_units params) h q.starts canada_rule canada_limit (omega arith) (short_history berth way cycle start first h timed)).1 q.parts.splits in
+    let k = (split_exact CANADA may ca_fits MeetsCanadaShift (pad_units params) h q.starts canada_rule canada_limit (omega arith) (short_history berth way cycle start first h timed)).1 q.parts.splits in
     let d : Declares CANADA may ca_fits fresh_count PADDING_MINUTES h q.starts k.0 = subst (λ n. Declares CANADA may ca_fits fresh_count n h q.starts k.0) pads k.1 in
     let days : TakesDays (ca_day start first) (fresh_days way) PADDING_MINUTES h q.deferred q.days.0 = subst (λ n. TakesDays (ca_day start first) (fresh_days way) n h q.deferred q.days.0) pads_are q.days.1 in
     let c = (cycle_rules berth way cycle start first h marks).1 (q.parts.off24, q.parts.in_cycle, q.parts.without24) in

@@ -11,7 +11,7 @@ use Rattle.duty_core.specs.declared.params.RestWay.TheVariants.{Split, Defer}
 use Rattle.duty_core.specs.CaCycle.{cycle_days, cycle_reset}
 use Rattle.rule_core.specs.declared.numbers.TheConstants.{MOST_NUMBERS, NUMBER_LIMIT}
 use Rattle.day_sums.specs.Sums.{IsDays, AreSums, today, are_within}
-use Rattle.day_sums.specs.Laws.SumLaws.{within_decides}
+use Rattle.day_sums.specs.Laws.Within.{within_decides}
 use Rattle.sleeper_split.specs.declared.rule.TheConstants.SplitRule.{CANADA}
 use Rattle.sleeper_split.specs.declared.count.SplitCount.{SplitCount}
 use Rattle.sleeper_split.specs.Covers.{WaitsWell}

@@ -10,6 +10,7 @@ use Rattle.duty_core.specs.declared.params.Params.TheVariants.{Canada}
 use Rattle.duty_core.specs.declared.limits.TheConstants.{PADDING_MINUTES, DAY_MINUTES}
 use Rattle.duty_core.specs.History.{pad_days, pad_units, padding}
 use Rattle.rule_core.specs.Laws.Guard.{IsBehind}
+use Rattle.sleeper_split.specs.Laws.Places.{IsOfMinutes}
 use Rattle.cycles_deferral.specs.Paths.{ca_pads, begins, date_of}
 use Rattle.cycles_deferral.specs.Laws.CountryDays.{ca_day, begins_at}
 use Rattle.canada_rules.specs.Machine.{begins_day, ca_date}
@@ -21,6 +22,10 @@ pads_are = refl
 pub units_are : (berth : Bool) (way : RestWay) (cycle start : ℕ) → pad_units (Canada berth way cycle start) ≡ PADDING_MINUTES
 unfolding pad_days
 units_are berth way cycle start = refl
+
+-- a unit of the book is a minute
+pub ca_minutes : (berth : Bool) (way : RestWay) (cycle start : ℕ) → IsOfMinutes (Canada berth way cycle start)
+ca_minutes berth way cycle start = record { units = refl; pads = units_are berth way cycle start }
 
 pub length_padding : (berth : Bool) (way : RestWay) (cycle start : ℕ) → length (padding (Canada berth way cycle start)) ≡ PADDING_MINUTES
 length_padding berth way cycle start = length-replicate (pad_units (Canada berth way cycle start)) Off ∙ units_are berth way cycle start

@@ -11,14 +11,14 @@ use Rattle.duty_core.specs.declared.params.RestWay.TheVariants.{Split, Defer}
 use Rattle.duty_core.specs.declared.limits.TheConstants.{PADDING_MINUTES, DAY_MINUTES}
 use Rattle.rule_core.specs.declared.nexts.Next.{Next}
 use Rattle.rule_core.specs.Reach.{IsOneOf, Reaches}
-use Rattle.rule_core.specs.Laws.OneOf.{one_of-map, one_of_map}
-use Rattle.rule_core.specs.Laws.Guard.{Passes}
+use Rattle.rule_core.specs.Laws.OneOf.{one_of-map, one_of_map, contains_of, of_contains}
+use Rattle.rule_core.specs.Laws.Guard.{Passes, led}
 use Rattle.sleeper_split.specs.declared.rule.TheConstants.SplitRule.{CANADA}
 use Rattle.sleeper_split.specs.declared.count.SplitCount.{SplitCount}
 use Rattle.sleeper_split.specs.Machine.{run_of}
 use Rattle.sleeper_split.specs.Choices.{Choice, choices, declared, Declares}
-use Rattle.sleeper_split.specs.Laws.Growth.{contains_none, contains_head, contains_tail, contains_cases}
-use Rattle.sleeper_split.specs.Laws.ChoiceLaws.{IsChoice, choice_cases}
+use Rattle.sleeper_split.specs.Laws.ChoiceLaws.{IsChoice, choice_cases, choice_run}
+use Rattle.sleeper_split.specs.Laws.Places.{mark_at, named_choice}
 use Rattle.cycles_deferral.specs.declared.days.CanadaDays.{CanadaDays}
 use Rattle.cycles_deferral.specs.declared.cycle.CycleCount.{CycleCount}
 use Rattle.cycles_deferral.specs.DayMachine.{days_after}
@@ -32,14 +32,6 @@ use Rattle.canada_rules.specs.Laws.Padding.{place_begins, place_date}
 use Rattle.canada_rules.specs.Laws.CalendarSteps.{after_means, means_after, days_way, split_unmarked}
 
 -- # Successors
-
-contains_of : {X : Type 0} (xs : List X) (x : X) → IsOneOf xs x → Contains xs x
-contains_of [] x h = absurd h
-contains_of (y ∷ xs) x h = elim h [ inl e ↦ subst (Contains (y ∷ xs)) e (contains_head y xs) | inr t ↦ contains_tail y xs x (contains_of xs x t) ]
-
-of_contains : {X : Type 0} (xs : List X) (x : X) → Contains xs x → IsOneOf xs x
-of_contains [] x h = absurd (contains_none x h)
-of_contains (y ∷ xs) x h = elim (contains_cases y xs x h) [ inl e ↦ inl e | inr t ↦ inr (of_contains xs x t) ]
 
 with_means : (o : Option (Calendar × Option Mark)) (start : ℕ) (cs : List Choice) (n : Next CanadaState) → IsOneOf (nexts_with o start cs) n → (r : Calendar × Option Mark) × (o ≡ Some r) × IsOneOf (map (ca_next r start) cs) n
 with_means None start cs n h = absurd h
@@ -68,19 +60,6 @@ means_next may start s at x r c e h =
 pub ca_choice : (may : Bool) (s : SplitCount) (x : Activity) (c : Choice) → Contains (choices CANADA may ca_fits s x) c → IsChoice CANADA may ca_fits s x c
 ca_choice may s x c h = choice_cases CANADA may ca_fits s x c (omega arith) h
 
--- the run in progress grows by one at most
-pub choice_run : (may : Bool) (s : SplitCount) (x : Activity) (c : Choice) (i : ℕ) → IsChoice CANADA may ca_fits s x c → run_of s ≤ i → run_of c.count ≤ i + 1
-choice_run may s x c i h l = elim h [
-  | inl r ↦ (let e = ap (λ (d : Choice). run_of d.count) r.is in omega arith)
-  | inr k ↦ elim k [
-    | inl r ↦ (let e = ap (λ (d : Choice). run_of d.count) r.is in omega arith)
-    | inr m ↦ elim m [
-      | inl r ↦ (let e = ap (λ (d : Choice). run_of d.count) r.is in omega arith)
-      | inr r ↦ (let e = ap (λ (d : Choice). run_of d.count) r.is in omega arith)
-    ]
-  ]
-]
-
 -- where rests may not be split none is declared
 pub none_declared : (may : Bool) (s : SplitCount) (x : Activity) (c : Choice) → may ≡ false → IsChoice CANADA may ca_fits s x c → c.split ≡ false
 none_declared may s x c never h = elim h [
@@ -96,10 +75,6 @@ none_declared may s x c never h = elim h [
 
 -- # Marks
 
--- the mark of a run that begins at this place of a padded history, whose history begins at the minute `first`
-abbrev pub mark_at : ℕ → ℕ → Mark
-mark_at first k = SplitRest (first + k - PADDING_MINUTES)
-
 -- Under `split` the marks are those of runs that begin at these places, and under `defer` those of deferrals.
 abbrev pub AreNamed : RestWay → ℕ → List ℕ → List Mark → List Mark → Type 0
 AreNamed Split first starts deferred marks = (deferred ≡ []) × (marks ≡ map (mark_at first) starts)
@@ -108,13 +83,6 @@ AreNamed Defer first starts deferred marks = (starts ≡ []) × (marks ≡ defer
 pub named_same : (way : RestWay) (first : ℕ) (starts : List ℕ) (deferred marks others : List Mark) → AreNamed way first starts deferred marks → AreNamed way first starts deferred others → marks ≡ others
 named_same Split first starts deferred marks others h g = h.1 ∙ sym g.1
 named_same Defer first starts deferred marks others h g = h.1 ∙ sym g.1
-
-same_minute : (first at i run : ℕ) → at + PADDING_MINUTES ≡ first + i → run ≤ i → first + (i - run) - PADDING_MINUTES ≡ at - run
-same_minute first at i run e l = omega arith
-
-named_choice : (split : Bool) (first at i run : ℕ) → at + PADDING_MINUTES ≡ first + i → run ≤ i → option_to_list (mark_of split (at - run) None) ≡ map (mark_at first) (declared split (i - run))
-named_choice false first at i run e l = refl
-named_choice true first at i run e l = ap (λ m. SplitRest m ∷ []) (sym (same_minute first at i run e l))
 
 -- one more choice
 named_more : (way : RestWay) (first at i run : ℕ) (split : Bool) (m o : Option Mark) (marks later deferred : List Mark) (starts : List ℕ) → at + PADDING_MINUTES ≡ first + i → run ≤ i →
@@ -137,11 +105,6 @@ named_more Defer first at i run split m o marks later deferred starts e l none b
 -- Rests may be split only where the tour rests so.
 abbrev pub IsMay : Bool → RestWay → Type 0
 IsMay may way = way ≡ Defer → may ≡ false
-
--- where the day is led by these units
-abbrev pub led : {C : Type 0} → (C → ℕ → Activity → C) → C → ℕ → List Activity → C
-led go c at [] = c
-led go c at (x ∷ xs) = led go (go c at x) (at + 1) xs
 
 -- what a path of the machine comes by; the first unit stands at place i
 pub record IsCaPath (may : Bool) (way : RestWay) (start first : ℕ) (s : CanadaState) (at i : ℕ) (xs : List Activity) (marks : List Mark) (u : CanadaState) : Type 0 where
@@ -181,7 +144,7 @@ ca_path may way start first (x ∷ xs) s at i marks u allowed least w some e l r
     let em : r.0.mark ≡ mark_of k.by.split (at - run_of s.split) k.got.1 = sym (ap (λ (n : Next CanadaState). n.mark) k.is) in
     let a = after_means start s.calendar at x k.got k.calendar in
     let choice = ca_choice may s.split x k.by k.chosen in
-    let run : run_of k.by.count ≤ i + 1 = choice_run may s.split x k.by i choice l in
+    let run : run_of k.by.count ≤ i + 1 = choice_run CANADA may ca_fits s.split x k.by i choice l in
     let w1 : k.got.0.days.way ≡ way = days_way s.calendar.days x (begins_day start at) (ca_date start at) k.got.0.days k.got.1 a.days ∙ w in
     let new : begins (ca_day start first) i ≡ begins_day start at = place_begins start first i at least some e in
     let date : date_of (ca_day start first i) ≡ ca_date start at = place_date start first i at e in
@@ -233,7 +196,7 @@ path_ca may way start first (x ∷ xs) s at i starts deferred t d c allowed leas
     let after = means_after start s.calendar at x q.0 q.1 r.0 b.0 days cycle in
     let n : Next CanadaState = ca_next got (at - run_of s.split) k in
     let choice = ca_choice may s.split x k p.1 in
-    let run : run_of k.count ≤ i + 1 = choice_run may s.split x k i choice l in
+    let run : run_of k.count ≤ i + 1 = choice_run CANADA may ca_fits s.split x k i choice l in
     let w1 : q.0.way ≡ way = days_way s.calendar.days x (begins_day start at) (ca_date start at) q.0 q.1 days ∙ w in
     let more = path_ca may way start first xs n.state (at + 1) (i + 1) p.2 q.2 t d c allowed least w1 (omega arith) (omega arith) run p.4 q.5 r.2 b.1 in
     let named : AreNamed way first (declared k.split (i - run_of s.split) ++ p.2) (option_to_list q.1 ++ q.2) (option_to_list n.mark ++ more.marks) =

@@ -2,7 +2,7 @@
 use Rattle.std.proofs.Common.{◌≡◌, ◌↔◌, ℕ, ◌+◌, ◌-◌, ◌*◌, ◌<◌, ◌≤◌, Bool, true, false, ◌&&◌, List, [], ◌∷◌, ◌++◌, length, refl, sym, ◌∙◌, ap, subst, arith, length-append, inl, inr}
 use Rattle.std.specs.Prelude.{None, Some, replicate, Contains, nat_lt}
 use Rattle.std.proofs.lemmas.Bool.Decides.{nat_tests}
-use Rattle.std.proofs.lemmas.Bool.{cases_lt}
+use Rattle.std.proofs.lemmas.Bool.{and_parts, cases_lt}
 use Rattle.std.proofs.lemmas.List.Elements.{Contains-append_right}
 use Rattle.duty_core.specs.declared.activity.Activity.{Activity}
 use Rattle.duty_core.specs.declared.activity.Activity.TheVariants.{Off}
@@ -38,10 +38,10 @@ use Rattle.cycles_deferral.specs.Laws.CycleExact.{cycle_once}
 use Rattle.cycles_deferral.specs.Laws.CountryDays.{ca_day}
 use Rattle.canada_rules.specs.declared.state.CanadaState.{CanadaState}
 use Rattle.canada_rules.specs.Machine.{ca_fits, ca_may, begins_day, ca_date, calendar_made, ca_made, mark_of, ca_nexts, root_state, ca_advances}
-use Rattle.canada_rules.specs.Laws.Padding.{units_are, length_padding}
+use Rattle.canada_rules.specs.Laws.Padding.{ca_minutes, units_are, length_padding}
 use Rattle.canada_rules.specs.Laws.CalendarSteps.{after_means, days_way, split_unmarked}
 use Rattle.canada_rules.specs.Laws.Paths.{AreNamed, CaReaches, IsCaPath, next_means, ca_choice}
-use Rattle.canada_rules.specs.Laws.Places.{minute_means, HaveMinutes, places_once}
+use Rattle.sleeper_split.specs.Laws.Places.{minute_means, HaveMinutes, places_once}
 use Rattle.canada_rules.specs.Laws.Exact.{has_rules, short_history, starts_have, root_path, path_splits, path_keeps_splits, is_may, ca_exact}
 use Rattle.canada_rules.specs.Laws.Advance.{ca_advances_reach, ca_advances_all}
 use Rattle.canada_rules.specs.Laws.Better.{state_of_history}
@@ -109,13 +109,8 @@ is_marked split start m f e = let z : Some (SplitRest start) ≡ Some m = sym (a
 below : (a b : ℕ) → nat_lt a b ≡ true → a < b
 below a b h = grind (arith, nat_tests)
 
-both_true : (a b : Bool) → (a && b) ≡ true → (a ≡ true) × (b ≡ true)
-both_true true true e = (refl, refl)
-both_true true false e = absurd (let z : false ≡ true = e in cc)
-both_true false b e = absurd (let z : false ≡ true = e in cc)
-
 is_short : (s : SplitCount) → may_split CANADA s ≡ true → run_of s < CA_FULL_REST
-is_short s h = below (run_of s) CA_FULL_REST (both_true _ _ (both_true _ _ h).1).0
+is_short s h = below (run_of s) CA_FULL_REST (and_parts _ _ (and_parts _ _ h).1).0
 
 last_in : (marks : List Mark) (m : Mark) → Contains (marks ++ m ∷ []) m
 last_in marks m = Contains-append_right marks (m ∷ []) m (contains_head m [])
@@ -154,7 +149,7 @@ split_chosen berth cycle start first h marks s x n m least timed way r o e lawfu
     let run : run_of s.split ≡ t.run = (elim t.state [ inl f ↦ (let z = f.counted in let y = c.0 in absurd (omega arith)) | inr f ↦ f.counted ]) in
     let pair = (has_rules berth Split cycle start first h (marks ++ m ∷ []) lawful).pair in
     let named = pair.splits (at - run_of s.split) (subst (Contains (marks ++ m ∷ [])) c.1 (last_in marks m)) in
-    let minute = minute_means berth Split cycle start first (at - run_of s.split) named.from named.minute in
+    let minute = minute_means (Canada berth Split cycle start) first (at - run_of s.split) named.from (ca_minutes berth Split cycle start) named.minute in
     let there = t.ends.there in
     let small = c.0 in
     let thereafter = run_after berth Split cycle start h t.run t.ends (omega arith) in

@@ -1,7 +1,7 @@
 -- What a state is: of the root, and of each successor.
 use Rattle.std.proofs.Common.{◌≡◌, ℕ, ◌+◌, ◌-◌, ◌%◌, ◌<◌, ◌≤◌, Bool, true, false, cond, ◌&&◌, List, [], ◌∷◌, length, refl, sym, ◌∙◌, ap, subst, arith, ◌⊎◌, inl, inr, min, max}
 use Rattle.std.specs.Prelude.{ℤ, Option, None, Some, replicate, nat_lt, nat_le, nat_eq}
-use Rattle.std.proofs.lemmas.Bool.{cases_lt, cases_eq, cases_Bool, cond-true, cond-false}
+use Rattle.std.proofs.lemmas.Bool.{and_parts, cases_lt, cases_eq, cases_Bool, cond-true, cond-false}
 use Rattle.std.proofs.lemmas.Bool.Decides.{nat_tests}
 use Rattle.std.proofs.lemmas.List.{length-replicate}
 use Rattle.duty_core.specs.declared.activity.Activity.{Activity}
@@ -129,11 +129,6 @@ rested_kept s h = record {
 
 both_split : (u : CanadaDays) → keeps_split u ≡ true → (u.today.lost ≤ CA_LOST_LIMIT) × (u.yesterday.lost ≤ CA_LOST_LIMIT)
 both_split u h = (grind (arith, nat_tests), grind (arith, nat_tests))
-
-and_cases : (a b : Bool) → (a && b) ≡ true → (a ≡ true) × (b ≡ true)
-and_cases true true e = (refl, refl)
-and_cases true false e = absurd (let z : false ≡ true = e in cc)
-and_cases false b e = absurd (let z : false ≡ true = e in cc)
 
 upto : (a b : ℕ) → nat_le a b ≡ true → a ≤ b
 upto a b h = grind (arith, nat_tests)

@@ -33,13 +33,14 @@ use Rattle.canada_rules.specs.declared.state.CanadaState.{CanadaState}
 use Rattle.canada_rules.specs.Machine.{ca_fits, begins_day, ca_date, day_made, day_begun, day_more, day_keeps, calendar_made, calendar_with, calendar_after, ca_made, nexts_with, ca_nexts, first_of, carried, goes_on, day_so_far, IsCanadaState}
 use Rattle.canada_rules.specs.Laws.States.{day_goes, first_in, next_is_ca_state}
 use Rattle.canada_rules.specs.Laws.Advance.{next_steady}
-use Rattle.canada_rules.specs.Ends.{duty_after, next_with}
-use Rattle.canada_rules.specs.Laws.Ends.{chosen, after_is}
+use Rattle.sleeper_split.specs.Ends.{duty_after}
+use Rattle.sleeper_split.specs.Laws.EndLaws.{chosen, after_is}
+use Rattle.canada_rules.specs.Ends.{next_with}
 use Rattle.canada_rules.specs.Stretch.{day_more_run, calendar_run, left_of_day, IsFree, split_at_once, IsGoing}
 
 -- one more unit while none may end
 abbrev pub split_on : Activity → SplitCount → Option SplitCount
-split_on x s = cond (rests x) (Some (after_rest (sleeps x) s)) (duty_after x (Some s))
+split_on x s = cond (rests x) (Some (after_rest (sleeps x) s)) (duty_after ca_fits x (Some s))
 
 -- where so many more units lead
 abbrev pub split_more : Option SplitCount → Activity → ℕ → Option SplitCount
@@ -115,11 +116,11 @@ free_choices : (may : Bool) (s : SplitCount) (x : Activity) → IsFree s x → c
 free_choices may s x h =
     let go = cond (nat_eq (run_of s) 0) (at_duty ca_fits x false s) (run_choices CANADA may ca_fits s x) in
     elim h [
-      | inl r ↦ cond-true (rests x) (choice (after_rest (sleeps x) s) false ∷ []) go r ∙ ap (chosen false) (sym (cond-true (rests x) (Some (after_rest (sleeps x) s)) (duty_after x (Some s)) r))
+      | inl r ↦ cond-true (rests x) (choice (after_rest (sleeps x) s) false ∷ []) go r ∙ ap (chosen false) (sym (cond-true (rests x) (Some (after_rest (sleeps x) s)) (duty_after ca_fits x (Some s)) r))
       | inr w ↦
           cond-false (rests x) (choice (after_rest (sleeps x) s) false ∷ []) go w.0
           ∙ (cond-true (nat_eq (run_of s) 0) (at_duty ca_fits x false s) (run_choices CANADA may ca_fits s x) (let z = w.1 in grind (arith, nat_tests))
-          ∙ (after_is x false (Some s) ∙ ap (chosen false) (sym (cond-false (rests x) (Some (after_rest (sleeps x) s)) (duty_after x (Some s)) w.0))))
+          ∙ (after_is ca_fits x false (Some s) ∙ ap (chosen false) (sym (cond-false (rests x) (Some (after_rest (sleeps x) s)) (duty_after ca_fits x (Some s)) w.0))))
     ]
 
 first_found : (o : Option (Calendar × Option Mark)) (begin : ℕ) (c : Option SplitCount) → first_of (nexts_with o begin (chosen false c)) ≡ found None o c
@@ -146,7 +147,7 @@ stays_free s t x h e = elim h [
   | inr w ↦
       let ok : Bool = cond (drives x) (ca_fits (after_duty (drives x) s)) true in
       let go : Option SplitCount = Some (after_duty (drives x) s) in
-      let f : Some t ≡ cond ok go None = sym e ∙ cond-false (rests x) (Some (after_rest (sleeps x) s)) (duty_after x (Some s)) w.0 in
+      let f : Some t ≡ cond ok go None = sym e ∙ cond-false (rests x) (Some (after_rest (sleeps x) s)) (duty_after ca_fits x (Some s)) w.0 in
       elim (cases_Bool ok) [
         | inl k ↦ (let g : Some t ≡ Some (after_duty (drives x) s) = f ∙ cond-true ok go None k in let q : t ≡ after_duty (drives x) s = cc in inr (w.0, ap run_of q))
         | inr k ↦ absurd (let g : Some t ≡ None = f ∙ cond-false ok go None k in cc)
@@ -243,11 +244,11 @@ rests_on : (x : Activity) → rests x ≡ true → (n : ℕ) (s : SplitCount) �
 rests_on x r zero s = refl
 rests_on x r (suc n) s =
     let t : SplitCount = after_rest (sleeps x) s in
-    ap (λ o. split_more o x n) (cond-true (rests x) (Some (after_rest (sleeps x) t)) (duty_after x (Some t)) r) ∙ rests_on x r n t
+    ap (λ o. split_more o x n) (cond-true (rests x) (Some (after_rest (sleeps x) t)) (duty_after ca_fits x (Some t)) r) ∙ rests_on x r n t
 
-works_on : (x : Activity) → rests x ≡ false → (n : ℕ) (s : SplitCount) → split_more (duty_after x (Some s)) x n
+works_on : (x : Activity) → rests x ≡ false → (n : ℕ) (s : SplitCount) → split_more (duty_after ca_fits x (Some s)) x n
     ≡ cond (cond (drives x) (ca_fits (repeated (after_duty (drives x)) (suc n) s)) true) (Some (repeated (after_duty (drives x)) (suc n) s)) None
-works_on x r zero s = no_counts (duty_after x (Some s)) x
+works_on x r zero s = no_counts (duty_after ca_fits x (Some s)) x
 works_on x r (suc n) s =
     let t : SplitCount = after_duty (drives x) s in
     let one : Bool = cond (drives x) (ca_fits t) true in
@@ -256,7 +257,7 @@ works_on x r (suc n) s =
     elim (cases_Bool one) [
       | inl k ↦
           ap (λ o. split_more o x (suc n)) (cond-true one (Some t) None k)
-          ∙ (ap (λ o. split_more o x n) (cond-false (rests x) (Some (after_rest (sleeps x) t)) (duty_after x (Some t)) r) ∙ works_on x r n t)
+          ∙ (ap (λ o. split_more o x n) (cond-false (rests x) (Some (after_rest (sleeps x) t)) (duty_after ca_fits x (Some t)) r) ∙ works_on x r n t)
       | inr k ↦
           ap (λ o. split_more o x (suc n)) (cond-false one (Some t) None k)
           ∙ sym (cond-false all (Some last) None (elim (cases_Bool all) [ inl g ↦ absurd (let z : true ≡ false = sym (drives_less (drives x) s n g) ∙ k in cc) | inr g ↦ g ]))
@@ -267,8 +268,8 @@ split_run_is x n s =
     let stay : Option SplitCount = Some (repeated (after_rest (sleeps x)) (suc n) s) in
     let go : Option SplitCount = cond (cond (drives x) (ca_fits (repeated (after_duty (drives x)) (suc n) s)) true) (Some (repeated (after_duty (drives x)) (suc n) s)) None in
     elim (cases_Bool (rests x)) [
-      | inl r ↦ ap (λ o. split_more o x n) (cond-true (rests x) (Some (after_rest (sleeps x) s)) (duty_after x (Some s)) r) ∙ (rests_on x r n s ∙ sym (cond-true (rests x) stay go r))
-      | inr r ↦ ap (λ o. split_more o x n) (cond-false (rests x) (Some (after_rest (sleeps x) s)) (duty_after x (Some s)) r) ∙ (works_on x r n s ∙ sym (cond-false (rests x) stay go r))
+      | inl r ↦ ap (λ o. split_more o x n) (cond-true (rests x) (Some (after_rest (sleeps x) s)) (duty_after ca_fits x (Some s)) r) ∙ (rests_on x r n s ∙ sym (cond-true (rests x) stay go r))
+      | inr r ↦ ap (λ o. split_more o x n) (cond-false (rests x) (Some (after_rest (sleeps x) s)) (duty_after ca_fits x (Some s)) r) ∙ (works_on x r n s ∙ sym (cond-false (rests x) stay go r))
     ]
 
 -- # Units of one day

@@ -1,11 +1,8 @@
 -- What adding, a new day and a restart make of the sums of the youngest days.
 use Rattle.std.proofs.Common.{◌≡◌, ℕ, ◌+◌, ◌<◌, ◌≤◌, List, [], ◌∷◌, length, take, refl, sym, ◌∙◌, ap, arith, zero, suc}
-use Rattle.std.specs.Prelude.{sum, replicate, nat_le, All}
+use Rattle.std.specs.Prelude.{sum, replicate}
 use Rattle.std.proofs.lemmas.List.Sums.{sum_by-cons}
-use Rattle.std.specs.Bool.{Decides}
-use Rattle.std.proofs.lemmas.Bool.Decides.{nat_tests, Decides-by_and}
-use Rattle.duty_core.specs.declared.limits.TheConstants.{DAY_MINUTES}
-use Rattle.day_sums.specs.Sums.{first_days, added, rolled, cleared, today, are_within}
+use Rattle.day_sums.specs.Sums.{first_days, added, rolled, cleared, today}
 
 pub first_none : (sums : List ℕ) → first_days 0 sums ≡ 0
 first_none [] = refl
@@ -85,10 +82,3 @@ today_cleared (x ∷ xs) = refl
 pub today_added : (n : ℕ) (sums : List ℕ) → today (added n sums) ≤ today sums + n
 today_added n [] = omega arith
 today_added n (x ∷ xs) = omega arith
-
-a_day_decides : (n : ℕ) → Decides (nat_le n DAY_MINUTES) (n ≤ DAY_MINUTES)
-a_day_decides n = ((λ h. grind (arith, nat_tests)), (λ h. grind (arith, nat_tests)))
-
--- the test decides whether each day holds at most its minutes
-pub within_decides : (sums : List ℕ) → Decides (are_within sums) (All (λ n. n ≤ DAY_MINUTES) sums)
-within_decides sums = Decides-by_and (λ n. nat_le n DAY_MINUTES) (λ n. n ≤ DAY_MINUTES) are_within a_day_decides refl (λ _ _. refl) sums

@@ -5,12 +5,13 @@ use Rattle.std.specs.Prelude.{map, if◌then◌else◌}
 use Rattle.std.specs.Option.{option_to_list}
 use Rattle.std.proofs.lemmas.List.{length-replicate}
 use Rattle.duty_core.specs.declared.activity.Activity.{Activity}
-use Rattle.duty_core.specs.declared.activity.Activity.TheVariants.{Off}
+use Rattle.duty_core.specs.declared.activity.Activity.TheVariants.{Drive, Off}
 use Rattle.duty_core.specs.declared.mark.Mark.{Mark}
 use Rattle.duty_core.specs.declared.params.Params.{Params}
 use Rattle.duty_core.specs.Params.{unit_minutes}
-use Rattle.duty_core.specs.History.{pad_units, padding, padded}
-use Rattle.duty_core.specs.Laws.HistoryLaws.{length-one_more, IsRule, holds_more, holds_before, holds_after, holds_padding}
+use Rattle.duty_core.specs.Activity.{drives}
+use Rattle.duty_core.specs.History.{unit_at, pad_units, padding, padded}
+use Rattle.duty_core.specs.Laws.HistoryLaws.{unit_at-last, length-one_more, IsRule, holds_more, holds_before, holds_after, holds_padding}
 use Rattle.rule_core.specs.declared.nexts.Next.{Next}
 use Rattle.rule_core.specs.Reach.{IsOneOf, Reaches}
 use Rattle.rule_core.specs.Laws.OneOf.{one_of-map, one_of_map}
@@ -19,6 +20,15 @@ use Rattle.rule_core.specs.Laws.OneOf.{one_of-map, one_of_map}
 abbrev pub Passes : {C : Type 0} → ℕ → (C → ℕ → Activity → Bool) → (C → ℕ → Activity → C) → C → ℕ → List Activity → Type 0
 Passes unit ok go c at [] = Unit {0}
 Passes unit ok go c at (x ∷ xs) = (ok c at x ≡ true) × Passes unit ok go (go c at x) (at + unit) xs
+
+-- a history ends with driving only where its last unit is driving
+pub not_driving : (p : List Activity) (x : Activity) → drives x ≡ false → unit_at (p ++ x ∷ []) (length p) ≡ Drive → ⊥
+not_driving p x d e = let z : true ≡ false = sym (ap drives e) ∙ (ap drives (unit_at-last p x) ∙ d) in cc
+
+-- where a guard is led by these units, each of which takes a minute
+abbrev pub led : {C : Type 0} → (C → ℕ → Activity → C) → C → ℕ → List Activity → C
+led go c at [] = c
+led go c at (x ∷ xs) = led go (go c at x) (at + 1) xs
 
 -- # A machine after a guard
 

@@ -1,6 +1,7 @@
 -- Membership in lists that are put together.
 use Rattle.std.proofs.Common.{◌≡◌, ℕ, ◌<◌, List, [], ◌∷◌, ◌++◌, length, get_or, refl, sym, ap, subst, arith, ◌⊎◌, inl, inr, zero, suc}
-use Rattle.std.specs.Prelude.{map, flat_map}
+use Rattle.std.specs.Prelude.{map, flat_map, Contains}
+use Rattle.duty_core.specs.Laws.MarkListLaws.{contains_head, contains_after, contains_cases}
 use Rattle.rule_core.specs.Reach.{IsOneOf}
 
 pub one_of-append_left : {X : Type 0} (xs ys : List X) (x : X) → IsOneOf xs x → IsOneOf (xs ++ ys) x
@@ -42,3 +43,12 @@ one_of_flat_map f (z ∷ xs) x y h i = elim h [
 -- an element as a loop reads it
 pub one_of_item : {X : Type 0} (xs : List X) (i : ℕ) (x : X) → i < length xs → x ≡ get_or xs i x → IsOneOf xs x
 one_of_item xs i x l e = subst (IsOneOf xs) (sym e) (one_of-get_or xs i x l)
+
+-- what stands in the list is an element of it
+pub contains_of : {X : Type 0} (xs : List X) (x : X) → IsOneOf xs x → Contains xs x
+contains_of [] x h = absurd h
+contains_of (y ∷ xs) x h = elim h [ inl e ↦ subst (Contains (y ∷ xs)) e (contains_head y xs) | inr t ↦ contains_after y xs x (contains_of xs x t) ]
+
+pub of_contains : {X : Type 0} (xs : List X) (x : X) → Contains xs x → IsOneOf xs x
+of_contains [] x h = let l = h.1 in absurd (omega arith)
+of_contains (y ∷ xs) x h = elim (contains_cases y xs x h) [ inl e ↦ inl e | inr t ↦ inr (of_contains xs x t) ]

@@ -1,6 +1,8 @@
 -- Paths put together and taken apart.
 use Rattle.std.proofs.Common.{◌≡◌, ℕ, ◌+◌, ◌*◌, List, [], ◌∷◌, ◌++◌, length, refl, sym, ◌∙◌, ap, subst, arith, append_assoc}
+use Rattle.std.specs.Prelude.{replicate}
 use Rattle.std.specs.Option.{option_to_list}
+use Rattle.std.proofs.lemmas.List.{length-replicate}
 use Rattle.duty_core.specs.declared.activity.Activity.{Activity}
 use Rattle.duty_core.specs.declared.mark.Mark.{Mark}
 use Rattle.rule_core.specs.declared.nexts.Next.{Next}
@@ -61,3 +63,10 @@ reached_state unit is_state nexts next [] s at marks t i r =
 reached_state unit is_state nexts next (x ∷ xs) s at marks t i r =
     subst (is_state t) (let e : at + unit + unit * length xs ≡ at + unit * length (x ∷ xs) = omega arith in e)
     (reached_state unit is_state nexts next xs r.0.state (at + unit) r.2 t (next s at x r.0 i r.1) r.4)
+
+-- many equal units reach a state
+pub equal_units_state : {S : Type 0} (unit : ℕ) (is_state : S → ℕ → Type 0) (nexts : S → ℕ → Activity → List (Next S)) →
+    ((s : S) (at : ℕ) (x : Activity) (n : Next S) → is_state s at → IsOneOf (nexts s at x) n → is_state n.state (at + unit)) →
+    (s : S) (at : ℕ) (x : Activity) (n : ℕ) (marks : List Mark) (t : S) → is_state s at → Reaches unit nexts s at (replicate n x) marks t → is_state t (at + unit * n)
+equal_units_state unit is_state nexts next s at x n marks t i r =
+    subst (λ m. is_state t (at + unit * m)) (length-replicate n x) (reached_state unit is_state nexts next (replicate n x) s at marks t i r)

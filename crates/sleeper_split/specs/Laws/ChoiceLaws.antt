@@ -8,7 +8,7 @@ use Rattle.duty_core.specs.declared.activity.Activity.{Activity}
 use Rattle.duty_core.specs.Activity.{rests, drives}
 use Rattle.sleeper_split.specs.declared.rule.SplitRule.{SplitRule}
 use Rattle.sleeper_split.specs.declared.count.SplitCount.{SplitCount}
-use Rattle.sleeper_split.specs.Machine.{made, no_run, after_rest, after_duty, may_pair, may_split, split_count, rested_count, end_undeclared, end_split, end_full}
+use Rattle.sleeper_split.specs.Machine.{made, no_run, after_rest, after_duty, may_pair, may_split, split_count, rested_count, end_undeclared, end_split, end_full, run_of}
 use Rattle.sleeper_split.specs.Choices.{Choice, choice, sleeps, at_duty, after_run, run_choices, choices, declared, Declares}
 use Rattle.sleeper_split.specs.Laws.Growth.{contains_none, contains_one, contains_head}
 use Rattle.sleeper_split.specs.Laws.Limits.{and_left, and_right, and_both, below, upto, same, is_below, is_upto, is_same}
@@ -306,3 +306,16 @@ declares_append rule may ok s u i (x ∷ h) g a b t r q =
     let c : Choice = r.0 in
     let e : i + length (x ∷ h) ≡ i + 1 + length h = omega arith in
     (c, r.1, r.2 ++ b, ap (λ l. l ++ b) r.3 ∙ append_assoc (declared c.split (i - s.run.long)) r.2 b, declares_append rule may ok c.count u (i + 1) h g r.2 b t r.4 (subst (λ n. Declares rule may ok u n g b t) e q))
+
+-- the run in progress grows by one at most
+pub choice_run : (rule : SplitRule) (may : Bool) (ok : SplitCount → Bool) (s : SplitCount) (x : Activity) (c : Choice) (i : ℕ) → IsChoice rule may ok s x c → run_of s ≤ i → run_of c.count ≤ i + 1
+choice_run rule may ok s x c i h l = elim h [
+  | inl r ↦ (let e = ap (λ (d : Choice). run_of d.count) r.is in omega arith)
+  | inr k ↦ elim k [
+    | inl r ↦ (let e = ap (λ (d : Choice). run_of d.count) r.is in omega arith)
+    | inr m ↦ elim m [
+      | inl r ↦ (let e = ap (λ (d : Choice). run_of d.count) r.is in omega arith)
+      | inr r ↦ (let e = ap (λ (d : Choice). run_of d.count) r.is in omega arith)
+    ]
+  ]
+]

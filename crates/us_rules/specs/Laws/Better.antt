@@ -17,7 +17,7 @@ use Rattle.duty_core.specs.Counting.{driving}
 use Rattle.duty_core.specs.Marks.{IsSplitAt}
 use Rattle.duty_core.specs.UsRules.{IsLastBreak, us_week_limit}
 use Rattle.duty_core.specs.PlainlyBetter.{AreDaysBetter, IsUsBetter, IsPlainlyBetter}
-use Rattle.rule_core.specs.Laws.Guard.{IsGuard}
+use Rattle.rule_core.specs.Laws.Guard.{IsGuard, led}
 use Rattle.rule_core.specs.Laws.ReachLaws.{reached_state}
 use Rattle.day_sums.specs.Laws.Sums.{LeavesNoLess}
 use Rattle.day_sums.specs.Laws.SumLaws.{first_none}
@@ -36,13 +36,15 @@ use Rattle.us_rules.specs.declared.state.BreakCount.{BreakCount}
 use Rattle.us_rules.specs.declared.state.WeekCount.{WeekCount}
 use Rattle.us_rules.specs.declared.state.UsState.{UsState}
 use Rattle.us_rules.specs.Machine.{us_fits, break_made, break_after, break_ok, week_made, begins_day, week_after, week_ok, us_nexts, root_state, IsUsState, us_covers}
-use Rattle.us_rules.specs.Laws.Padding.{us_pads, length_padding, after_us}
+use Rattle.us_rules.specs.Laws.Padding.{us_minutes, us_pads, length_padding, after_us}
 use Rattle.us_rules.specs.Laws.BreakGuard.{EndsStill, TracksBreak, break_is_guard, tracks_break_root}
 use Rattle.us_rules.specs.Laws.WeekGuard.{us_day, TracksWeek, week_is_guard, tracks_week_root, day_on, turn}
-use Rattle.us_rules.specs.Laws.Paths.{led, UsReaches}
+use Rattle.us_rules.specs.Laws.Paths.{UsReaches}
 use Rattle.us_rules.specs.Laws.Covers.{BreakCovers, WeekCovers, us_covers_decides}
 use Rattle.us_rules.specs.Laws.States.{root_is_us_state, next_is_us_state}
-use Rattle.us_rules.specs.Laws.Exact.{AreSame, same_marks, us_holds, short_history, starts_have, root_path}
+use Rattle.sleeper_split.specs.Promises.{MeetsUsShift}
+use Rattle.sleeper_split.specs.Laws.SameMarks.{AreSame, same_marks}
+use Rattle.us_rules.specs.Laws.Exact.{short_history, starts_have, root_path}
 
 -- # What a state tells of its history
 
@@ -71,9 +73,9 @@ tells berth days day_start first h marks s some timed r =
     let d : Declares US berth us_fits fresh_count (pad_units params) h q.starts s.split = subst (λ n. Declares US berth us_fits fresh_count n h q.starts s.split) (sym pads) q.declares in
     let short = short_history berth days day_start first h timed in
     let t : Tracks US p (Contains q.starts) s.split = split_tracks US berth us_fits (pad_units params) h q.starts s.split us_rule (omega arith) short d in
-    let k = (split_exact US berth us_fits us_holds (pad_units params) h q.starts us_rule us_limit (omega arith) short).0 (s.split, d) in
+    let k = (split_exact US berth us_fits MeetsUsShift (pad_units params) h q.starts us_rule us_limit (omega arith) short).0 (s.split, d) in
     let same : AreSame (Contains q.starts) (IsSplitAt params first marks) =
-    subst (λ ms. AreSame (Contains q.starts) (IsSplitAt params first ms)) (sym q.named) (same_marks berth days day_start first q.starts (starts_have berth days day_start first h q.starts k.splits)) in
+    subst (λ ms. AreSame (Contains q.starts) (IsSplitAt params first ms)) (sym q.named) (same_marks (UsProperty berth days day_start) first q.starts (us_minutes berth days day_start) (starts_have berth days day_start first h q.starts k.splits)) in
     record {
       split = tracks_marked US p (Contains q.starts) (IsSplitAt params first marks) s.split same.marks same.back t;
       rest_break = subst (TracksBreak p) (sym q.led_break)

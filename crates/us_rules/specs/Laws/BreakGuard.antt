@@ -17,7 +17,7 @@ use Rattle.duty_core.specs.Counting.{driving}
 use Rattle.duty_core.specs.UsRules.{IsBreak, IsLastBreak, MeetsUsBreak8}
 use Rattle.duty_core.specs.Laws.UniqueLaws.{last_break_unique}
 use Rattle.duty_core.specs.Laws.RuleLaws.{us_break8_is_rule}
-use Rattle.rule_core.specs.Laws.Guard.{IsGuard}
+use Rattle.rule_core.specs.Laws.Guard.{not_driving, IsGuard}
 use Rattle.us_rules.specs.declared.state.BreakCount.{BreakCount}
 use Rattle.us_rules.specs.Machine.{break_made, paused, break_after, break_ok}
 use Rattle.us_rules.specs.Laws.Padding.{length_padding}
@@ -154,10 +154,6 @@ driving_is : (p : List Activity) (n to : ℕ) → HasBreak (p ++ Drive ∷ []) n
 driving_is p n to h b =
     let e : to ≡ h.at = last_break_unique (p ++ Drive ∷ []) (length p) to h.at b (break_at_drive p n h) in
     ap (λ l. count_by drives (drop to l)) (take_all (length p + 1) (p ++ Drive ∷ []) (omega (arith, length-one_more p Drive))) ∙ (ap (λ a. count_by drives (drop a (p ++ Drive ∷ []))) e ∙ h.count)
-
--- only driving is asked
-not_driving : (p : List Activity) (x : Activity) → drives x ≡ false → unit_at (p ++ x ∷ []) (length p) ≡ Drive → ⊥
-not_driving p x d e = let z : true ≡ false = sym (ap drives e) ∙ (ap drives (unit_at-last p x) ∙ d) in cc
 
 break_sound : (p : List Activity) (c : BreakCount) (at : ℕ) (x : Activity) → TracksBreak p c → break_ok c at x ≡ true → MeetsUsBreak8 (p ++ x ∷ []) (length p)
 break_sound p c at Drive h ok d = λ to b.

@@ -1,7 +1,7 @@
 -- Which state may stand for which, whatever comes next: the relation, its order, and why it lasts.
 use Rattle.std.proofs.Common.{◌≡◌, ◌↔◌, ℕ, ◌+◌, ◌-◌, ◌<◌, ◌≤◌, Bool, true, List, length, refl, sym, ◌∙◌, ap, subst, arith, ◌⊎◌, inl, inr}
 use Rattle.std.specs.Prelude.{sum, nat_le, nat_lt, ◌&&◌}
-use Rattle.std.proofs.lemmas.Bool.{cases_lt}
+use Rattle.std.proofs.lemmas.Bool.{and_parts, and_from, cases_lt}
 use Rattle.std.proofs.lemmas.Bool.Decides.{nat_tests}
 use Rattle.std.proofs.lemmas.List.{take_all}
 use Rattle.duty_core.specs.declared.activity.Activity.{Activity}
@@ -24,7 +24,6 @@ use Rattle.us_rules.specs.declared.state.WeekCount.{WeekCount}
 use Rattle.us_rules.specs.declared.state.UsState.{UsState}
 use Rattle.us_rules.specs.Machine.{break_made, paused, break_after, break_ok, week_made, begins_day, week_rested, week_after, week_ok, IsUsState, break_covers, week_covers, us_covers}
 use Rattle.us_rules.specs.Laws.BreakGuard.{paused_cases}
-use Rattle.us_rules.specs.Laws.Paths.{both_true, true_both}
 
 -- # The relation
 
@@ -49,11 +48,11 @@ is_upto a b h = grind (arith, nat_tests)
 
 covers_means : (berth : Bool) (days day_start : ℕ) (a b : UsState) (at : ℕ) → us_covers berth days day_start a b at ≡ true → UsCovers berth days day_start a b at
 covers_means berth days day_start a b at h =
-    let x = both_true (covers_count US berth a.split b.split) (break_covers a.rest_break b.rest_break && week_covers days day_start at a.week b.week) h in
-    let y = both_true (break_covers a.rest_break b.rest_break) (week_covers days day_start at a.week b.week) x.1 in
+    let x = and_parts (covers_count US berth a.split b.split) (break_covers a.rest_break b.rest_break && week_covers days day_start at a.week b.week) h in
+    let y = and_parts (break_covers a.rest_break b.rest_break) (week_covers days day_start at a.week b.week) x.1 in
     let turn : Bool = begins_day day_start at in
-    let u = both_true (nat_le b.rest_break.still a.rest_break.still) (nat_le a.rest_break.driven b.rest_break.driven) y.0 in
-    let v = both_true (nat_le b.week.rest a.week.rest) (leaves_no_less (us_week_limit days) days (turned turn a.week.sums) (turned turn b.week.sums)) y.1 in
+    let u = and_parts (nat_le b.rest_break.still a.rest_break.still) (nat_le a.rest_break.driven b.rest_break.driven) y.0 in
+    let v = and_parts (nat_le b.week.rest a.week.rest) (leaves_no_less (us_week_limit days) days (turned turn a.week.sums) (turned turn b.week.sums)) y.1 in
     record {
       split = (covers_decides US berth a.split b.split).0 x.0;
       rest_break = record { still = upto b.rest_break.still a.rest_break.still u.0; driven = upto a.rest_break.driven b.rest_break.driven u.1 };
@@ -66,12 +65,12 @@ covers_means berth days day_start a b at h =
 means_covers : (berth : Bool) (days day_start : ℕ) (a b : UsState) (at : ℕ) → UsCovers berth days day_start a b at → us_covers berth days day_start a b at ≡ true
 means_covers berth days day_start a b at h =
     let turn : Bool = begins_day day_start at in
-    true_both (covers_count US berth a.split b.split) (break_covers a.rest_break b.rest_break && week_covers days day_start at a.week b.week)
+    and_from (covers_count US berth a.split b.split) (break_covers a.rest_break b.rest_break && week_covers days day_start at a.week b.week)
     ((covers_decides US berth a.split b.split).1 h.split)
-    (true_both (break_covers a.rest_break b.rest_break) (week_covers days day_start at a.week b.week)
-    (true_both (nat_le b.rest_break.still a.rest_break.still) (nat_le a.rest_break.driven b.rest_break.driven)
+    (and_from (break_covers a.rest_break b.rest_break) (week_covers days day_start at a.week b.week)
+    (and_from (nat_le b.rest_break.still a.rest_break.still) (nat_le a.rest_break.driven b.rest_break.driven)
     (is_upto b.rest_break.still a.rest_break.still h.rest_break.still) (is_upto a.rest_break.driven b.rest_break.driven h.rest_break.driven))
-    (true_both (nat_le b.week.rest a.week.rest) (leaves_no_less (us_week_limit days) days (turned turn a.week.sums) (turned turn b.week.sums))
+    (and_from (nat_le b.week.rest a.week.rest) (leaves_no_less (us_week_limit days) days (turned turn a.week.sums) (turned turn b.week.sums))
     (is_upto b.week.rest a.week.rest h.week.rest)
     ((leaves_decides (us_week_limit days) days (turned turn a.week.sums) (turned turn b.week.sums)).1 h.week.sums)))
 

@@ -12,47 +12,30 @@ use Rattle.duty_core.specs.declared.rule.Rule.TheVariants.{UsWindow14, UsDrive11
 use Rattle.duty_core.specs.declared.limits.TheConstants.{US_FULL_REST, PADDING_MINUTES, COUNT_LIMIT, US_BREAK, US_RESTART}
 use Rattle.duty_core.specs.Activity.{rests}
 use Rattle.duty_core.specs.History.{unit_at, pad_units, padding, padded, IsTimed}
-use Rattle.duty_core.specs.Laws.HistoryLaws.{AreAlike, unit_at-append, unit_at-replicate}
+use Rattle.duty_core.specs.Laws.HistoryLaws.{unit_at-append, unit_at-replicate}
 use Rattle.duty_core.specs.Marks.{IsSplitAt}
-use Rattle.duty_core.specs.DeclaredRest.{ArePairedAt, IsSplittable}
+use Rattle.duty_core.specs.DeclaredRest.{IsSplittable}
 use Rattle.duty_core.specs.UsRules.{MeetsUsWindow14, MeetsUsDrive11, MeetsUsBreak8, MeetsUsWeek, IsUsPair, MeetsUsPair}
 use Rattle.duty_core.specs.RuleBooks.{Keeps, KeepsAll}
 use Rattle.rule_core.specs.Laws.Guard.{guard_exact}
 use Rattle.sleeper_split.specs.declared.rule.TheConstants.SplitRule.{US}
 use Rattle.sleeper_split.specs.Machine.{fresh_count}
 use Rattle.sleeper_split.specs.Choices.{Declares}
-use Rattle.sleeper_split.specs.Laws.Alike.{AreMarkedAlike, split_marked, next_marked, base_marked}
+use Rattle.sleeper_split.specs.Laws.Alike.{base_marked}
 use Rattle.sleeper_split.specs.Exact.{MaySplit, KeepsSplits, IsPairOf}
 use Rattle.sleeper_split.specs.Laws.ExactLaws.{split_exact}
 use Rattle.sleeper_split.specs.Laws.CountryLaws.{us_rule, us_pair, us_may_split, us_limit}
 use Rattle.us_rules.specs.declared.state.UsState.{UsState}
 use Rattle.us_rules.specs.Machine.{us_fits, break_made, break_after, break_ok, week_made, week_after, week_ok, root_state}
-use Rattle.us_rules.specs.Laws.Padding.{us_pads, length_padding}
+use Rattle.us_rules.specs.Laws.Padding.{us_minutes, us_pads, length_padding}
 use Rattle.us_rules.specs.Laws.BreakGuard.{TracksBreak, break_is_guard, tracks_break_root}
 use Rattle.us_rules.specs.Laws.WeekGuard.{us_day, TracksWeek, week_is_guard, tracks_week_root}
-use Rattle.us_rules.specs.Laws.Paths.{mark_at, UsReaches, IsUsPath, us_path, path_us}
-use Rattle.us_rules.specs.Laws.Places.{minute_means, means_minute, contains-map, HaveMinutes, marked_place, place_marked, marks_ordered, HasPlace, place_of, marks_again, places_have, places_ordered}
+use Rattle.us_rules.specs.Laws.Paths.{UsReaches, IsUsPath, us_path, path_us}
+use Rattle.sleeper_split.specs.Promises.{MeetsUsShift}
+use Rattle.sleeper_split.specs.Laws.SameMarks.{AreSame, same_back, marked_alike, paired_same, same_marks}
+use Rattle.sleeper_split.specs.Laws.Places.{mark_at, minute_means, means_minute, contains-map, HaveMinutes, marks_ordered, HasPlace, place_of, marks_again, places_have, places_ordered}
 
 -- # One history, its runs marked in two ways
-
--- The marks are those of runs that begin at these places.
-pub record AreSame (Marked Other : ℕ → Type 0) : Type 0 where
-  pub marks : (a : ℕ) → Marked a → Other a
-  pub back : (a : ℕ) → Other a → Marked a
-
-same_back : {Marked Other : ℕ → Type 0} → AreSame Marked Other → AreSame Other Marked
-same_back g = record { marks = g.back; back = g.marks }
-
-alike_itself : (p : List Activity) (n : ℕ) → AreAlike p p n
-alike_itself p n = record { fronts = λ k l. refl; units = λ k l. refl }
-
-marked_alike : (p : List Activity) (Marked Other : ℕ → Type 0) (n : ℕ) → AreSame Marked Other → AreMarkedAlike p Marked p Other n
-marked_alike p Marked Other n g = record { alike = alike_itself p n; marks = λ a b l r m. g.marks a m; back = λ a b l r m. g.back a m }
-
-paired_same : (p : List Activity) (Marked Other : ℕ → Type 0) (Pair : ℕ → ℕ → ℕ → ℕ → Type 0) (d : ℕ) → AreSame Marked Other → ArePairedAt US_FULL_REST Pair p Marked d → ArePairedAt US_FULL_REST Pair p Other d
-paired_same p Marked Other Pair d g h a b c s n =
-    let back = marked_alike p Other Marked (b + d + 1) (same_back g) in
-    h a b c (split_marked back (omega arith) s) (next_marked back (omega arith) n)
 
 window_same : (p : List Activity) (Marked Other : ℕ → Type 0) (i : ℕ) → AreSame Marked Other → MeetsUsWindow14 p Marked i → MeetsUsWindow14 p Other i
 window_same p Marked Other i g h e base omitted b = h e base omitted (base_marked (marked_alike p Other Marked (i + 1) (same_back g)) (omega arith) b)
@@ -62,15 +45,11 @@ driving_same p Marked Other i g h e base omitted b = h e base omitted (base_mark
 
 -- # Lawful by places
 
--- the window and the driving
-abbrev pub us_holds : List Activity → (ℕ → Type 0) → ℕ → Type 0
-us_holds p Marked i = MeetsUsWindow14 p Marked i × MeetsUsDrive11 p Marked i
-
 -- what is asked of a padded history, with the places at which its split rests begin
 pub record KeepsByPlaces (berth : Bool) (days day_start first : ℕ) (p : List Activity) (marks : List Mark) : Type 0 where
   pub starts : List ℕ
   pub named : marks ≡ map (mark_at first) starts
-  pub splits : KeepsSplits US berth us_holds p starts
+  pub splits : KeepsSplits US berth MeetsUsShift p starts
   pub unbroken : (i : ℕ) → MeetsUsBreak8 p i
   pub week : (i : ℕ) → MeetsUsWeek days (us_day day_start first) p i
 
@@ -96,12 +75,6 @@ split_after berth days day_start h a s = elim (cases_lt a PADDING_MINUTES) [
 pub starts_have : (berth : Bool) (days day_start first : ℕ) (h : List Activity) (starts : List ℕ) → ((a : ℕ) → Contains starts a → MaySplit US berth (padded (UsProperty berth days day_start) h) a) → HaveMinutes first starts
 starts_have berth days day_start first h starts s k i = let l = split_after berth days day_start h k (s k i) in omega arith
 
-pub same_marks : (berth : Bool) (days day_start first : ℕ) (starts : List ℕ) → HaveMinutes first starts → AreSame (Contains starts) (IsSplitAt (UsProperty berth days day_start) first (map (mark_at first) starts))
-same_marks berth days day_start first starts have = record {
-  marks = λ a i. place_marked berth days day_start first starts a have i;
-  back = λ a i. marked_place berth days day_start first starts a have i;
-}
-
 no_deferral : (first : ℕ) (starts : List ℕ) (day : ℤ) → Contains (map (mark_at first) starts) (DeferDay day) → ⊥
 no_deferral first starts day i = let q = contains-map (mark_at first) starts (DeferDay day) i in let z : SplitRest (first + q.0 - PADDING_MINUTES) ≡ DeferDay day = q.2 in cc
 
@@ -116,12 +89,12 @@ five_rules K a b c d e =
 
 -- marks that name such places keep the book
 keeps_of_places : (berth : Bool) (days day_start first : ℕ) (h : List Activity) (starts : List ℕ) → let p = padded (UsProperty berth days day_start) h in
-    KeepsSplits US berth us_holds p starts → ((i : ℕ) → MeetsUsBreak8 p i) → ((i : ℕ) → MeetsUsWeek days (us_day day_start first) p i) →
+    KeepsSplits US berth MeetsUsShift p starts → ((i : ℕ) → MeetsUsBreak8 p i) → ((i : ℕ) → MeetsUsWeek days (us_day day_start first) p i) →
     KeepsAll (UsProperty berth days day_start) first h (map (mark_at first) starts)
 keeps_of_places berth days day_start first h starts k unbroken week =
     let p : List Activity = padded (UsProperty berth days day_start) h in
     let have : HaveMinutes first starts = starts_have berth days day_start first h starts k.splits in
-    let same = same_marks berth days day_start first starts have in
+    let same = same_marks (UsProperty berth days day_start) first starts (us_minutes berth days day_start) have in
     let marks : List Mark = map (mark_at first) starts in
     let Marked : ℕ → Type 0 = IsSplitAt (UsProperty berth days day_start) first marks in
     let window : Keeps (UsProperty berth days day_start) first h marks UsWindow14 = (λ i. window_same p (Contains starts) Marked i same (k.limits i).0) in
@@ -131,12 +104,12 @@ keeps_of_places berth days day_start first h starts k unbroken week =
           let q = contains-map (mark_at first) starts (SplitRest at) i in
           let e : first + q.0 - PADDING_MINUTES ≡ at = (let z : SplitRest (first + q.0 - PADDING_MINUTES) ≡ SplitRest at = q.2 in cc) in
           let l = have q.0 q.1 in
-          record { from = q.0; minute = means_minute berth days day_start first at q.0 (omega arith); run = (us_may_split berth p q.0).0 (k.splits q.0 q.1) };
+          record { from = q.0; minute = means_minute (UsProperty berth days day_start) first at q.0 (us_minutes berth days day_start) (omega arith); run = (us_may_split berth p q.0).0 (k.splits q.0 q.1) };
       none_deferred = no_deferral first starts;
-      pairs = λ d. paired_same p (Contains starts) Marked (IsUsPair p) d same (λ a b c s n. (us_pair p a b c d).0 (k.pairs d a b c s n));
+      pairs = λ d. paired_same US_FULL_REST p (Contains starts) Marked (IsUsPair p) d same (λ a b c s n. (us_pair p a b c d).0 (k.pairs d a b c s n));
     } in
     record {
-      marks_of_book = marks_ordered berth days day_start first starts have k.order;
+      marks_of_book = marks_ordered (UsProperty berth days day_start) first starts have k.order;
       rules = five_rules (Keeps (UsProperty berth days day_start) first h marks) window driven unbroken week pair;
     }
 
@@ -144,7 +117,7 @@ keeps_of_places berth days day_start first h starts k unbroken week =
 marks_placed : (berth : Bool) (days day_start first : ℕ) (p : List Activity) (marks : List Mark) → MeetsUsPair (UsProperty berth days day_start) first p marks → (m : Mark) → Contains marks m → HasPlace first m
 marks_placed berth days day_start first p marks h (SplitRest at) i =
     let s = h.splits at i in
-    let e = minute_means berth days day_start first at s.from s.minute in
+    let e = minute_means (UsProperty berth days day_start) first at s.from (us_minutes berth days day_start) s.minute in
     omega arith
 marks_placed berth days day_start first p marks h (DeferDay day) i = h.none_deferred day i
 
@@ -163,20 +136,20 @@ places_of_keeps berth days day_start first h marks k =
     let named : marks ≡ map (mark_at first) starts = marks_again first marks placed in
     let have : HaveMinutes first starts = places_have first marks placed in
     let same : AreSame (Contains starts) (IsSplitAt (UsProperty berth days day_start) first marks) =
-    subst (λ ms. AreSame (Contains starts) (IsSplitAt (UsProperty berth days day_start) first ms)) (sym named) (same_marks berth days day_start first starts have) in
+    subst (λ ms. AreSame (Contains starts) (IsSplitAt (UsProperty berth days day_start) first ms)) (sym named) (same_marks (UsProperty berth days day_start) first starts (us_minutes berth days day_start) have) in
     record {
       starts = starts;
       named = named;
       splits = record {
-        order = places_ordered berth days day_start first marks placed k.marks_of_book;
+        order = places_ordered (UsProperty berth days day_start) first marks placed k.marks_of_book;
         splits = λ a i.
             let m = same.marks a i in
             let s = pair.splits m.at m.marked in
-            let e = minute_means berth days day_start first m.at a m.minute in
-            let f = minute_means berth days day_start first m.at s.from s.minute in
+            let e = minute_means (UsProperty berth days day_start) first m.at a (us_minutes berth days day_start) m.minute in
+            let f = minute_means (UsProperty berth days day_start) first m.at s.from (us_minutes berth days day_start) s.minute in
             let one : s.from ≡ a = omega arith in
             (us_may_split berth p a).1 (subst (IsSplittable _ _ berth p) one s.run);
-        pairs = λ d. paired_same p (IsSplitAt (UsProperty berth days day_start) first marks) (Contains starts) (IsPairOf US p) d (same_back same) (λ a b c s n. (us_pair p a b c d).1 (pair.pairs d a b c s n));
+        pairs = λ d. paired_same US_FULL_REST p (IsSplitAt (UsProperty berth days day_start) first marks) (Contains starts) (IsPairOf US p) d (same_back same) (λ a b c s n. (us_pair p a b c d).1 (pair.pairs d a b c s n));
         limits = λ i. (
           window_same p (IsSplitAt (UsProperty berth days day_start) first marks) (Contains starts) i (same_back same) (window i),
           driving_same p (IsSplitAt (UsProperty berth days day_start) first marks) (Contains starts) i (same_back same) (driven i),
@@ -203,7 +176,7 @@ us_sound berth days day_start first h marks some timed u r =
     let q = root_path berth days day_start first h marks u r in
     let pads = us_pads berth days day_start in
     let d : Declares US berth us_fits fresh_count (pad_units params) h q.starts u.split = subst (λ n. Declares US berth us_fits fresh_count n h q.starts u.split) (sym pads) q.declares in
-    let k = (split_exact US berth us_fits us_holds (pad_units params) h q.starts us_rule us_limit (omega arith) (short_history berth days day_start first h timed)).0 (u.split, d) in
+    let k = (split_exact US berth us_fits MeetsUsShift (pad_units params) h q.starts us_rule us_limit (omega arith) (short_history berth days day_start first h timed)).0 (u.split, d) in
     let brk = (guard_exact params first MeetsUsBreak8 TracksBreak break_ok break_after (break_is_guard berth days day_start first) (break_made US_BREAK 0) h (tracks_break_root berth days day_start)).0 q.unbroken in
     let week = (guard_exact params first (MeetsUsWeek days (us_day day_start first)) (TracksWeek days day_start first) (week_ok days day_start) (week_after day_start) (week_is_guard berth days day_start first some) (week_made US_RESTART (replicate days 0)) h
     (tracks_week_root berth days day_start first)).0 q.week in
@@ -215,7 +188,7 @@ us_whole berth days day_start first h marks some timed l =
     let params = UsProperty berth days day_start in
     let q = places_of_keeps berth days day_start first h marks l in
     let pads = us_pads berth days day_start in
-    let k = (split_exact US berth us_fits us_holds (pad_units params) h q.starts us_rule us_limit (omega arith) (short_history berth days day_start first h timed)).1 q.splits in
+    let k = (split_exact US berth us_fits MeetsUsShift (pad_units params) h q.starts us_rule us_limit (omega arith) (short_history berth days day_start first h timed)).1 q.splits in
     let d : Declares US berth us_fits fresh_count PADDING_MINUTES h q.starts k.0 = subst (λ n. Declares US berth us_fits fresh_count n h q.starts k.0) pads k.1 in
     let brk = (guard_exact params first MeetsUsBreak8 TracksBreak break_ok break_after (break_is_guard berth days day_start first) (break_made US_BREAK 0) h (tracks_break_root berth days day_start)).1 q.unbroken in
     let week = (guard_exact params first (MeetsUsWeek days (us_day day_start first)) (TracksWeek days day_start first) (week_ok days day_start) (week_after day_start) (week_is_guard berth days day_start first some) (week_made US_RESTART (replicate days 0)) h

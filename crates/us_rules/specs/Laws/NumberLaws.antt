@@ -9,7 +9,7 @@ use Rattle.std.proofs.lemmas.List.{length-drop}
 use Rattle.duty_core.specs.declared.limits.TheConstants.{DAY_MINUTES, COUNT_LIMIT, US_BREAK, US_UNBROKEN_LIMIT, US_RESTART}
 use Rattle.rule_core.specs.declared.numbers.TheConstants.{MOST_NUMBERS, NUMBER_LIMIT}
 use Rattle.day_sums.specs.Sums.{IsDays, AreSums, today, are_within}
-use Rattle.day_sums.specs.Laws.SumLaws.{within_decides}
+use Rattle.day_sums.specs.Laws.Within.{within_decides}
 use Rattle.sleeper_split.specs.declared.rule.TheConstants.SplitRule.{US}
 use Rattle.sleeper_split.specs.Covers.{WaitsWell}
 use Rattle.sleeper_split.specs.Numbers.{split_numbers, split_of, is_count}

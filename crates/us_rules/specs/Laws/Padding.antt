@@ -7,10 +7,15 @@ use Rattle.duty_core.specs.declared.params.Params.TheVariants.{UsProperty}
 use Rattle.duty_core.specs.declared.limits.TheConstants.{PADDING_MINUTES}
 use Rattle.duty_core.specs.History.{pad_days, pad_units, padding}
 use Rattle.rule_core.specs.Laws.Guard.{IsBehind}
+use Rattle.sleeper_split.specs.Laws.Places.{IsOfMinutes}
 
 pub us_pads : (berth : Bool) (days day_start : ℕ) → pad_units (UsProperty berth days day_start) ≡ PADDING_MINUTES
 unfolding pad_days
 us_pads berth days day_start = refl
+
+-- a unit of the book is a minute
+pub us_minutes : (berth : Bool) (days day_start : ℕ) → IsOfMinutes (UsProperty berth days day_start)
+us_minutes berth days day_start = record { units = refl; pads = us_pads berth days day_start }
 
 pub length_padding : (berth : Bool) (days day_start : ℕ) → length (padding (UsProperty berth days day_start)) ≡ PADDING_MINUTES
 length_padding berth days day_start = length-replicate (pad_units (UsProperty berth days day_start)) Off ∙ us_pads berth days day_start

@@ -1,44 +1,26 @@
 -- A path of the book's machine is a path of the counts of split rests that both guards let pass.
-use Rattle.std.proofs.Common.{◌≡◌, ℕ, ◌+◌, ◌-◌, ◌≤◌, Bool, true, false, List, [], ◌∷◌, ◌++◌, refl, sym, ◌∙◌, ap, subst, arith, inl, inr}
+use Rattle.std.proofs.Common.{◌≡◌, ℕ, ◌+◌, ◌-◌, ◌≤◌, Bool, true, List, [], ◌∷◌, ◌++◌, refl, sym, ◌∙◌, ap, subst, arith}
 use Rattle.std.specs.Prelude.{Option, map, Contains, ◌&&◌}
 use Rattle.std.specs.Option.{option_to_list}
+use Rattle.std.proofs.lemmas.Bool.{and_parts, and_from}
 use Rattle.std.proofs.lemmas.List.{map-append}
 use Rattle.duty_core.specs.declared.activity.Activity.{Activity}
 use Rattle.duty_core.specs.declared.mark.Mark.{Mark}
-use Rattle.duty_core.specs.declared.mark.Mark.TheVariants.{SplitRest}
 use Rattle.duty_core.specs.declared.limits.TheConstants.{PADDING_MINUTES}
 use Rattle.rule_core.specs.declared.nexts.Next.{Next}
 use Rattle.rule_core.specs.Reach.{IsOneOf, Reaches}
-use Rattle.rule_core.specs.Laws.OneOf.{one_of-map, one_of_map}
-use Rattle.rule_core.specs.Laws.Guard.{Passes, when_true, true_when}
+use Rattle.rule_core.specs.Laws.OneOf.{one_of-map, one_of_map, contains_of, of_contains}
+use Rattle.rule_core.specs.Laws.Guard.{Passes, led, when_true, true_when}
 use Rattle.sleeper_split.specs.declared.rule.TheConstants.SplitRule.{US}
 use Rattle.sleeper_split.specs.declared.count.SplitCount.{SplitCount}
 use Rattle.sleeper_split.specs.Machine.{run_of}
 use Rattle.sleeper_split.specs.Choices.{Choice, choices, declared, Declares}
-use Rattle.sleeper_split.specs.Laws.Growth.{contains_none, contains_head, contains_tail, contains_cases}
-use Rattle.sleeper_split.specs.Laws.ChoiceLaws.{IsChoice, choice_cases}
+use Rattle.sleeper_split.specs.Laws.ChoiceLaws.{IsChoice, choice_cases, choice_run}
+use Rattle.sleeper_split.specs.Laws.Places.{mark_at, named_choice}
 use Rattle.us_rules.specs.declared.state.UsState.{UsState}
 use Rattle.us_rules.specs.Machine.{us_fits, break_after, break_ok, week_after, week_ok, mark_of, us_next, us_nexts}
 
 -- # Successors
-
-contains_of : {X : Type 0} (xs : List X) (x : X) → IsOneOf xs x → Contains xs x
-contains_of [] x h = absurd h
-contains_of (y ∷ xs) x h = elim h [ inl e ↦ subst (Contains (y ∷ xs)) e (contains_head y xs) | inr t ↦ contains_tail y xs x (contains_of xs x t) ]
-
-of_contains : {X : Type 0} (xs : List X) (x : X) → Contains xs x → IsOneOf xs x
-of_contains [] x h = absurd (contains_none x h)
-of_contains (y ∷ xs) x h = elim (contains_cases y xs x h) [ inl e ↦ inl e | inr t ↦ inr (of_contains xs x t) ]
-
-pub both_true : (a b : Bool) → (a && b) ≡ true → (a ≡ true) × (b ≡ true)
-both_true true true e = (refl, refl)
-both_true true false e = absurd (let z : false ≡ true = e in cc)
-both_true false b e = absurd (let z : false ≡ true = e in cc)
-
-pub true_both : (a b : Bool) → a ≡ true → b ≡ true → (a && b) ≡ true
-true_both true true e f = refl
-true_both true false e f = absurd (let z : false ≡ true = f in cc)
-true_both false b e f = absurd (let z : false ≡ true = e in cc)
 
 -- what a successor comes by
 pub record IsUsNext (berth : Bool) (days day_start : ℕ) (s : UsState) (at : ℕ) (x : Activity) (n : Next UsState) : Type 0 where
@@ -52,7 +34,7 @@ pub next_means : (berth : Bool) (days day_start : ℕ) (s : UsState) (at : ℕ) 
 next_means berth days day_start s at x n o =
     let by = us_next (break_after s.rest_break at x) (week_after day_start s.week at x) (at - run_of s.split) in
     let w = when_true (break_ok s.rest_break at x && week_ok days day_start s.week at x) (map by (choices US berth us_fits s.split x)) n o in
-    let b = both_true (break_ok s.rest_break at x) (week_ok days day_start s.week at x) w.0 in
+    let b = and_parts (break_ok s.rest_break at x) (week_ok days day_start s.week at x) w.0 in
     let k = one_of-map by (choices US berth us_fits s.split x) n w.1 in
     record { unbroken = b.0; week = b.1; by = k.0; chosen = contains_of (choices US berth us_fits s.split x) k.0 k.1; is = k.2 }
 
@@ -62,37 +44,13 @@ pub means_next : (berth : Bool) (days day_start : ℕ) (s : UsState) (at : ℕ) 
 means_next berth days day_start s at x c b w h =
     let by = us_next (break_after s.rest_break at x) (week_after day_start s.week at x) (at - run_of s.split) in
     true_when (break_ok s.rest_break at x && week_ok days day_start s.week at x) (map by (choices US berth us_fits s.split x)) (by c)
-    (true_both (break_ok s.rest_break at x) (week_ok days day_start s.week at x) b w)
+    (and_from (break_ok s.rest_break at x) (week_ok days day_start s.week at x) b w)
     (one_of_map by (choices US berth us_fits s.split x) c (of_contains (choices US berth us_fits s.split x) c h))
 
 pub us_choice : (berth : Bool) (s : SplitCount) (x : Activity) (c : Choice) → Contains (choices US berth us_fits s x) c → IsChoice US berth us_fits s x c
 us_choice berth s x c h = choice_cases US berth us_fits s x c (omega arith) h
 
--- the run in progress grows by one at most
-pub choice_run : (berth : Bool) (s : SplitCount) (x : Activity) (c : Choice) (i : ℕ) → IsChoice US berth us_fits s x c → run_of s ≤ i → run_of c.count ≤ i + 1
-choice_run berth s x c i h l = elim h [
-  | inl r ↦ (let e = ap (λ (d : Choice). run_of d.count) r.is in omega arith)
-  | inr k ↦ elim k [
-    | inl r ↦ (let e = ap (λ (d : Choice). run_of d.count) r.is in omega arith)
-    | inr m ↦ elim m [
-      | inl r ↦ (let e = ap (λ (d : Choice). run_of d.count) r.is in omega arith)
-      | inr r ↦ (let e = ap (λ (d : Choice). run_of d.count) r.is in omega arith)
-    ]
-  ]
-]
-
 -- # Marks of places
-
--- the mark of a run that begins at this place of a padded history, whose history begins at the minute `first`
-abbrev pub mark_at : ℕ → ℕ → Mark
-mark_at first k = SplitRest (first + k - PADDING_MINUTES)
-
-same_minute : (first at i run : ℕ) → at + PADDING_MINUTES ≡ first + i → run ≤ i → first + (i - run) - PADDING_MINUTES ≡ at - run
-same_minute first at i run e l = omega arith
-
-named_choice : (split : Bool) (first at i run : ℕ) → at + PADDING_MINUTES ≡ first + i → run ≤ i → option_to_list (mark_of split (at - run)) ≡ map (mark_at first) (declared split (i - run))
-named_choice false first at i run e l = refl
-named_choice true first at i run e l = ap (λ m. SplitRest m ∷ []) (sym (same_minute first at i run e l))
 
 named_more : (split : Bool) (first at i run : ℕ) (marks later : List Mark) (o : Option Mark) (starts : List ℕ) → at + PADDING_MINUTES ≡ first + i → run ≤ i →
     marks ≡ option_to_list o ++ later → o ≡ mark_of split (at - run) → later ≡ map (mark_at first) starts → marks ≡ map (mark_at first) (declared split (i - run) ++ starts)
@@ -101,11 +59,6 @@ named_more split first at i run marks later o starts e l m q n =
     ∙ (ap (λ ms. map (mark_at first) (declared split (i - run)) ++ ms) n ∙ sym (map-append (mark_at first) (declared split (i - run)) starts))))
 
 -- # Paths
-
--- where a guard is led by these units
-abbrev pub led : {C : Type 0} → (C → ℕ → Activity → C) → C → ℕ → List Activity → C
-led go c at [] = c
-led go c at (x ∷ xs) = led go (go c at x) (at + 1) xs
 
 -- what a path of the machine comes by; the first unit stands at place i
 pub record IsUsPath (berth : Bool) (days day_start first : ℕ) (s : UsState) (at i : ℕ) (xs : List Activity) (marks : List Mark) (u : UsState) : Type 0 where
@@ -137,7 +90,7 @@ us_path berth days day_start first (x ∷ xs) s at i marks u e l r =
     let eb : break_after s.rest_break at x ≡ r.0.state.rest_break = ap (λ n. n.state.rest_break) k.is in
     let ew : week_after day_start s.week at x ≡ r.0.state.week = ap (λ n. n.state.week) k.is in
     let em : mark_of k.by.split (at - run_of s.split) ≡ r.0.mark = ap (λ n. n.mark) k.is in
-    let run : run_of k.by.count ≤ i + 1 = choice_run berth s.split x k.by i (us_choice berth s.split x k.by k.chosen) l in
+    let run : run_of k.by.count ≤ i + 1 = choice_run US berth us_fits s.split x k.by i (us_choice berth s.split x k.by k.chosen) l in
     let q = us_path berth days day_start first xs r.0.state (at + 1) (i + 1) r.2 u (omega arith) (subst (λ c. run_of c ≤ i + 1) es run) r.4 in
     record {
       starts = declared k.by.split (i - run_of s.split) ++ q.starts;
@@ -156,7 +109,7 @@ path_us berth days day_start first [] s at i starts t e l d b w = (s, (refl, ap 
 path_us berth days day_start first (x ∷ xs) s at i starts t e l d b w =
     let c : Choice = d.0 in
     let n : Next UsState = us_next (break_after s.rest_break at x) (week_after day_start s.week at x) (at - run_of s.split) c in
-    let run : run_of c.count ≤ i + 1 = choice_run berth s.split x c i (us_choice berth s.split x c d.1) l in
+    let run : run_of c.count ≤ i + 1 = choice_run US berth us_fits s.split x c i (us_choice berth s.split x c d.1) l in
     let q = path_us berth days day_start first xs n.state (at + 1) (i + 1) d.2 t (omega arith) run d.4 b.1 w.1 in (
       q.0,
       (

@@ -2,7 +2,7 @@
 use Rattle.std.proofs.Common.{◌≡◌, ◌↔◌, ℕ, ◌+◌, ◌-◌, ◌*◌, ◌<◌, ◌≤◌, Bool, true, false, List, [], ◌∷◌, ◌++◌, length, sym, ◌∙◌, ap, subst, arith, length-append, inl, inr}
 use Rattle.std.specs.Prelude.{None, Some, replicate, Contains, nat_lt}
 use Rattle.std.proofs.lemmas.Bool.Decides.{nat_tests}
-use Rattle.std.proofs.lemmas.Bool.{cases_lt}
+use Rattle.std.proofs.lemmas.Bool.{and_parts, cases_lt}
 use Rattle.std.proofs.lemmas.List.Elements.{Contains-append_right}
 use Rattle.duty_core.specs.declared.activity.Activity.{Activity}
 use Rattle.duty_core.specs.declared.activity.Activity.TheVariants.{Off}
@@ -34,11 +34,12 @@ use Rattle.sleeper_split.specs.Laws.CountryLaws.{us_rule, us_limit}
 use Rattle.us_rules.specs.declared.state.UsState.{UsState}
 use Rattle.us_rules.specs.Machine.{us_fits, mark_of, us_nexts, us_made, root_state, us_advances}
 use Rattle.us_rules.specs.Book.{us_book}
-use Rattle.us_rules.specs.Laws.Padding.{us_pads, length_padding}
-use Rattle.us_rules.specs.Laws.Paths.{UsReaches, IsUsPath, next_means, us_choice, both_true}
-use Rattle.us_rules.specs.Laws.Places.{minute_means, HaveMinutes, places_once}
+use Rattle.us_rules.specs.Laws.Padding.{us_minutes, us_pads, length_padding}
+use Rattle.us_rules.specs.Laws.Paths.{UsReaches, IsUsPath, next_means, us_choice}
+use Rattle.sleeper_split.specs.Laws.Places.{minute_means, HaveMinutes, places_once}
 use Rattle.us_rules.specs.Laws.Advance.{us_advances_reach, us_advances_all}
-use Rattle.us_rules.specs.Laws.Exact.{us_holds, short_history, starts_have, root_path, us_exact}
+use Rattle.sleeper_split.specs.Promises.{MeetsUsShift}
+use Rattle.us_rules.specs.Laws.Exact.{short_history, starts_have, root_path, us_exact}
 
 -- a path, as one of the counts alone
 split_path : (berth : Bool) (days day_start first : ℕ) (h : List Activity) (marks : List Mark) (u : UsState) (q : IsUsPath berth days day_start first (root_state days) first PADDING_MINUTES h marks u) →
@@ -50,7 +51,7 @@ path_has : (berth : Bool) (days day_start first : ℕ) (h : List Activity) (mark
     (q : IsUsPath berth days day_start first (root_state days) first PADDING_MINUTES h marks u) → HaveMinutes first q.starts
 path_has berth days day_start first h marks u timed q =
     let pads = us_pads berth days day_start in
-    let k = (split_exact US berth us_fits us_holds (pad_units (UsProperty berth days day_start)) h q.starts us_rule us_limit (omega arith) (short_history berth days day_start first h timed)).0
+    let k = (split_exact US berth us_fits MeetsUsShift (pad_units (UsProperty berth days day_start)) h q.starts us_rule us_limit (omega arith) (short_history berth days day_start first h timed)).0
     (u.split, split_path berth days day_start first h marks u q) in
     starts_have berth days day_start first h q.starts k.splits
 
@@ -99,7 +100,7 @@ below : (a b : ℕ) → nat_lt a b ≡ true → a < b
 below a b h = grind (arith, nat_tests)
 
 is_short : (s : SplitCount) → may_split US s ≡ true → run_of s < US_FULL_REST
-is_short s h = below (run_of s) US_FULL_REST (both_true _ _ (both_true _ _ h).1).0
+is_short s h = below (run_of s) US_FULL_REST (and_parts _ _ (and_parts _ _ h).1).0
 
 last_in : (marks : List Mark) (m : Mark) → Contains (marks ++ m ∷ []) m
 last_in marks m = Contains-append_right marks (m ∷ []) m (contains_head m [])
@@ -135,7 +136,7 @@ us_chosen berth days day_start first h marks s x n m timed r o e lawful =
     let run : run_of s.split ≡ t.run = (elim t.state [ inl f ↦ (let z = f.counted in let y = c.0 in absurd (omega arith)) | inr f ↦ f.counted ]) in
     let pair : MeetsUsPair params first (padded params h) (marks ++ m ∷ []) = lawful.rules 4 UsPair (omega arith) in
     let named = pair.splits (at - run_of s.split) (subst (Contains (marks ++ m ∷ [])) c.1 (last_in marks m)) in
-    let minute = minute_means berth days day_start first (at - run_of s.split) named.from named.minute in
+    let minute = minute_means (UsProperty berth days day_start) first (at - run_of s.split) named.from (us_minutes berth days day_start) named.minute in
     let there = t.ends.there in
     let small = c.0 in
     let thereafter = run_after berth days day_start h t.run t.ends (omega arith) in

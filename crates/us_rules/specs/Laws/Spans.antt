@@ -1,7 +1,7 @@
 -- Many units of one day at once. The counts only grow while a driver is on duty, so the last unit decides whether a rule forbids one of them.
 use Rattle.std.proofs.Common.{◌≡◌, ℕ, ◌+◌, ◌-◌, ◌%◌, ◌<◌, ◌≤◌, Bool, true, false, cond, List, [], ◌∷◌, ◌++◌, refl, sym, ◌∙◌, ap, subst, arith, append-nil, ◌⊎◌, inl, inr, zero, suc, min}
 use Rattle.std.specs.Prelude.{Option, None, Some, map, flat_map, sum, nat_eq, nat_lt, nat_le, ◌&&◌, if◌then◌else◌}
-use Rattle.std.proofs.lemmas.Bool.{cases_lt, cases_Bool}
+use Rattle.std.proofs.lemmas.Bool.{and_parts, and_from, cases_lt, cases_Bool}
 use Rattle.std.proofs.lemmas.Bool.Decides.{nat_tests}
 use Rattle.std.proofs.lemmas.List.Sums.{sum_by-cons}
 use Rattle.std.proofs.lemmas.List.Concat.{flat_map-append}
@@ -17,7 +17,7 @@ use Rattle.day_sums.specs.Laws.SumLaws.{cleared_twice}
 use Rattle.day_sums.specs.Counted.{turned, after_rest}
 use Rattle.rule_core.specs.declared.nexts.Next.{Next}
 use Rattle.rule_core.specs.declared.nexts.Nexts.{Nexts}
-use Rattle.rule_core.specs.Reach.{listed, IsOneOf}
+use Rattle.rule_core.specs.Reach.{nexts_made, listed, IsOneOf}
 use Rattle.rule_core.specs.Laws.OneOf.{one_of-flat_map}
 use Rattle.sleeper_split.specs.declared.rule.TheConstants.SplitRule.{US}
 use Rattle.sleeper_split.specs.declared.count.SplitCount.{SplitCount}
@@ -25,18 +25,18 @@ use Rattle.sleeper_split.specs.Machine.{after_rest as rested_more, after_duty, e
 use Rattle.sleeper_split.specs.Runs.{repeated}
 use Rattle.sleeper_split.specs.Laws.Runs.{works_at_once}
 use Rattle.sleeper_split.specs.Choices.{Choice, choice, choices, sleeps, at_duty, run_choices}
-use Rattle.us_rules.specs.declared.ends.Ends.{Ends}
+use Rattle.sleeper_split.specs.declared.ends.Ends.{Ends}
 use Rattle.us_rules.specs.declared.state.BreakCount.{BreakCount}
 use Rattle.us_rules.specs.declared.state.WeekCount.{WeekCount}
 use Rattle.us_rules.specs.declared.state.UsState.{UsState}
 use Rattle.us_rules.specs.Machine.{us_fits, break_made, paused, break_after, break_ok, week_made, begins_day, week_rested, week_after, week_ok, us_made, IsUsState, us_next, us_nexts, first_of, goes_on, marked_next, us_advances}
 use Rattle.us_rules.specs.Laws.BreakGuard.{paused_cases}
-use Rattle.us_rules.specs.Laws.Paths.{both_true, true_both}
 use Rattle.us_rules.specs.Laws.States.{first_in, first_is_us_state, next_is_us_state}
 use Rattle.us_rules.specs.Advance.{IsSteady}
 use Rattle.us_rules.specs.Laws.Advance.{steady_nexts, next_steady, marked_means}
-use Rattle.us_rules.specs.Laws.Ends.{duty_after, us_ends, nexts_by, nexts_of_ends, nexts_of_none, advances_are}
-use Rattle.us_rules.specs.Ends.{ends_made, next_with, nexts_made, with_mark, onward}
+use Rattle.sleeper_split.specs.Ends.{ends_made, duty_after, ends_of}
+use Rattle.us_rules.specs.Laws.Ends.{nexts_by, nexts_of_ends, nexts_of_none, advances_are}
+use Rattle.us_rules.specs.Ends.{next_with, with_mark, onward}
 use Rattle.us_rules.specs.Spans.{left_of_day, paused_span, break_span, break_span_ok, week_span, duty_span, ends_span}
 
 abbrev pub week_span_ok : ℕ → ℕ → WeekCount → ℕ → Activity → ℕ → Bool
@@ -262,12 +262,12 @@ sum_added n (x ∷ xs) =
 fits_first : (n : ℕ) (s : SplitCount) → us_fits (repeated (after_duty true) (suc n) s) ≡ true → us_fits (after_duty true s) ≡ true
 fits_first n s h =
     let e = works_at_once true (suc n) s (omega arith) in
-    let q = both_true (nat_le (repeated (after_duty true) (suc n) s).base.elapsed US_WINDOW_LIMIT) (nat_le (repeated (after_duty true) (suc n) s).base.driving US_DRIVING_LIMIT) h in
+    let q = and_parts (nat_le (repeated (after_duty true) (suc n) s).base.elapsed US_WINDOW_LIMIT) (nat_le (repeated (after_duty true) (suc n) s).base.driving US_DRIVING_LIMIT) h in
     let a = upto (repeated (after_duty true) (suc n) s).base.elapsed US_WINDOW_LIMIT q.0 in
     let b = upto (repeated (after_duty true) (suc n) s).base.driving US_DRIVING_LIMIT q.1 in
     let c : min (s.base.elapsed + suc n) COUNT_LIMIT ≡ (repeated (after_duty true) (suc n) s).base.elapsed = ap (λ (t : SplitCount). t.base.elapsed) e in
     let d : min (s.base.driving + suc n) COUNT_LIMIT ≡ (repeated (after_duty true) (suc n) s).base.driving = ap (λ (t : SplitCount). t.base.driving) e in
-    true_both (nat_le (after_duty true s).base.elapsed US_WINDOW_LIMIT) (nat_le (after_duty true s).base.driving US_DRIVING_LIMIT)
+    and_from (nat_le (after_duty true s).base.elapsed US_WINDOW_LIMIT) (nat_le (after_duty true s).base.driving US_DRIVING_LIMIT)
     (is_upto (min (s.base.elapsed + 1) COUNT_LIMIT) US_WINDOW_LIMIT (omega arith)) (is_upto (min (s.base.driving + 1) COUNT_LIMIT) US_DRIVING_LIMIT (omega arith))
 
 abbrev drive_ok : ℕ → ℕ → UsState → Bool
@@ -275,14 +275,14 @@ drive_ok days n s = nat_le (s.rest_break.driven + n) US_UNBROKEN_LIMIT && (nat_l
 
 drive_first : (days n : ℕ) (s : UsState) → drive_ok days (suc n) s ≡ true → allows_unit days Drive s ≡ true
 drive_first days n s h =
-    let a = both_true (nat_le (s.rest_break.driven + suc n) US_UNBROKEN_LIMIT) (nat_le (sum (added (suc n) s.week.sums)) (us_week_limit days) && us_fits (repeated (after_duty true) (suc n) s.split)) h in
-    let b = both_true (nat_le (sum (added (suc n) s.week.sums)) (us_week_limit days)) (us_fits (repeated (after_duty true) (suc n) s.split)) a.1 in
+    let a = and_parts (nat_le (s.rest_break.driven + suc n) US_UNBROKEN_LIMIT) (nat_le (sum (added (suc n) s.week.sums)) (us_week_limit days) && us_fits (repeated (after_duty true) (suc n) s.split)) h in
+    let b = and_parts (nat_le (sum (added (suc n) s.week.sums)) (us_week_limit days)) (us_fits (repeated (after_duty true) (suc n) s.split)) a.1 in
     let u = upto (s.rest_break.driven + suc n) US_UNBROKEN_LIMIT a.0 in
     let v = upto (sum (added (suc n) s.week.sums)) (us_week_limit days) b.0 in
     let w = sum_added n s.week.sums in
-    true_both (nat_lt s.rest_break.driven US_UNBROKEN_LIMIT) (nat_le (sum (added 1 s.week.sums)) (us_week_limit days) && us_fits (after_duty true s.split))
+    and_from (nat_lt s.rest_break.driven US_UNBROKEN_LIMIT) (nat_le (sum (added 1 s.week.sums)) (us_week_limit days) && us_fits (after_duty true s.split))
     (lt_is_le s.rest_break.driven US_UNBROKEN_LIMIT ∙ is_upto (s.rest_break.driven + 1) US_UNBROKEN_LIMIT (omega arith))
-    (true_both (nat_le (sum (added 1 s.week.sums)) (us_week_limit days)) (us_fits (after_duty true s.split)) (is_upto (sum (added 1 s.week.sums)) (us_week_limit days) (omega arith)) (fits_first n s.split b.1))
+    (and_from (nat_le (sum (added 1 s.week.sums)) (us_week_limit days)) (us_fits (after_duty true s.split)) (is_upto (sum (added 1 s.week.sums)) (us_week_limit days) (omega arith)) (fits_first n s.split b.1))
 
 drives_all : (days n : ℕ) (s : UsState) → allows_units days Drive (suc n) s ≡ drive_ok days (suc n) s
 unfolding allows_units
@@ -357,13 +357,13 @@ span_if false b c p rest_break week mark = refl
 
 drive_one : (berth : Bool) (days day_start : ℕ) (s : UsState) (at n : ℕ) (p : SplitCount) (mark : Option Mark) → IsOneDay day_start (at + 1) n →
     (break_ok s.rest_break at Drive && week_ok days day_start s.week at Drive) ≡ true →
-    goes_by berth days day_start s at Drive n (duty_after Drive (Some p)) mark
+    goes_by berth days day_start s at Drive n (duty_after us_fits Drive (Some p)) mark
     ≡ (if span_ok days day_start s at Drive (suc n) then span_with day_start s at Drive (suc n) (duty_span Drive (suc n) (Some p)) mark else None)
 unfolding allows_units
 drive_one berth days day_start s at n p mark h ok =
     let u : UsState = us_made p s.rest_break (week_made s.week.rest (turned (begins_day day_start at) s.week.sums)) in
     let v : UsState = first_state day_start s at Drive p in
-    let oks = both_true (nat_lt s.rest_break.driven US_UNBROKEN_LIMIT) (week_ok days day_start s.week at Drive) ok in
+    let oks = and_parts (nat_lt s.rest_break.driven US_UNBROKEN_LIMIT) (week_ok days day_start s.week at Drive) ok in
     let fits : us_fits (after_duty true p) ≡ allows_unit days Drive u =
     sym (ap (λ b. b && (nat_le (sum (added 1 u.week.sums)) (us_week_limit days) && us_fits (after_duty true p))) oks.0 ∙ ap (λ b. b && us_fits (after_duty true p)) oks.1) in
     drive_cases berth days day_start s at n p mark h (us_fits (after_duty true p))
@@ -382,7 +382,7 @@ none_if false = refl
 
 duty_one : (berth : Bool) (days day_start : ℕ) (s : UsState) (at : ℕ) (x : Activity) (n : ℕ) (o : Option SplitCount) (mark : Option Mark) → rests x ≡ false → IsOneDay day_start (at + 1) n →
     (break_ok s.rest_break at x && week_ok days day_start s.week at x) ≡ true →
-    goes_by berth days day_start s at x n (duty_after x o) mark
+    goes_by berth days day_start s at x n (duty_after us_fits x o) mark
     ≡ (if span_ok days day_start s at x (suc n) then span_with day_start s at x (suc n) (duty_span x (suc n) o) mark else None)
 duty_one berth days day_start s at x n None mark r h ok = none_if (span_ok days day_start s at x (suc n))
 duty_one berth days day_start s at Drive n (Some p) mark r h ok = drive_one berth days day_start s at n p mark h ok
@@ -394,7 +394,7 @@ duty_one berth days day_start s at Berth n (Some p) mark r h ok = absurd (let z 
 -- where rests may be split
 may_one : (berth : Bool) (days day_start : ℕ) (s : UsState) (at : ℕ) (x : Activity) (n : ℕ) (o : Option SplitCount) (mark : Option Mark) → rests x ≡ false → IsOneDay day_start (at + 1) n →
     (break_ok s.rest_break at x && week_ok days day_start s.week at x) ≡ true → (may : Bool) →
-    goes_by berth days day_start s at x n (cond may (duty_after x o) None) mark
+    goes_by berth days day_start s at x n (cond may (duty_after us_fits x o) None) mark
     ≡ (if span_ok days day_start s at x (suc n) then span_with day_start s at x (suc n) (cond may (duty_span x (suc n) o) None) mark else None)
 may_one berth days day_start s at x n o mark r h ok true = duty_one berth days day_start s at x n o mark r h ok
 may_one berth days day_start s at x n o mark r h ok false = none_if (span_ok days day_start s at x (suc n))
@@ -417,7 +417,7 @@ span_three days day_start s at x n e = if span_ok days day_start s at x n then s
 -- the ends at a unit of duty, by whether no run is in progress
 abbrev duty_ends : Bool → Activity → SplitCount → Bool → Ends
 duty_ends berth x p none =
-    cond none (ends_made (duty_after x (Some p)) None None) (ends_made (duty_after x (end_undeclared US p)) (cond berth (duty_after x (end_split US p)) None) (duty_after x (end_full US p)))
+    cond none (ends_made (duty_after us_fits x (Some p)) None None) (ends_made (duty_after us_fits x (end_undeclared US p)) (cond berth (duty_after us_fits x (end_split US p)) None) (duty_after us_fits x (end_full US p)))
 
 abbrev duty_ends_span : Bool → Activity → ℕ → SplitCount → Bool → Ends
 duty_ends_span berth x n p none =
@@ -429,7 +429,7 @@ duty_three : (berth : Bool) (days day_start : ℕ) (s : UsState) (at : ℕ) (x :
 duty_three berth days day_start s at x n r h ok true =
     let fits : Bool = span_ok days day_start s at x (suc n) in
     let a = span_with day_start s at x (suc n) (duty_span x (suc n) (Some s.split)) None in
-    three_same (goes_by berth days day_start s at x n (duty_after x (Some s.split)) None) None None (if fits then a else None) (if fits then None else None) (if fits then None else None)
+    three_same (goes_by berth days day_start s at x n (duty_after us_fits x (Some s.split)) None) None None (if fits then a else None) (if fits then None else None) (if fits then None else None)
     (duty_one berth days day_start s at x n (Some s.split) None r h ok) (none_if fits) (none_if fits)
     ∙ three_if fits a None None
 duty_three berth days day_start s at x n r h ok false =
@@ -439,7 +439,7 @@ duty_three berth days day_start s at x n r h ok false =
     let a = span_with day_start s at x (suc n) (duty_span x (suc n) (end_undeclared US p)) None in
     let b = span_with day_start s at x (suc n) (cond berth (duty_span x (suc n) (end_split US p)) None) start in
     let c = span_with day_start s at x (suc n) (duty_span x (suc n) (end_full US p)) None in
-    three_same (goes_by berth days day_start s at x n (duty_after x (end_undeclared US p)) None) (goes_by berth days day_start s at x n (cond berth (duty_after x (end_split US p)) None) start) (goes_by berth days day_start s at x n (duty_after x (end_full US p)) None)
+    three_same (goes_by berth days day_start s at x n (duty_after us_fits x (end_undeclared US p)) None) (goes_by berth days day_start s at x n (cond berth (duty_after us_fits x (end_split US p)) None) start) (goes_by berth days day_start s at x n (duty_after us_fits x (end_full US p)) None)
     (if fits then a else None) (if fits then b else None) (if fits then c else None)
     (duty_one berth days day_start s at x n (end_undeclared US p) None r h ok)
     (may_one berth days day_start s at x n (end_split US p) start r h ok berth)
@@ -447,7 +447,7 @@ duty_three berth days day_start s at x n r h ok false =
     ∙ three_if fits a b c
 
 ends_first : (berth : Bool) (days day_start : ℕ) (s : UsState) (at : ℕ) (x : Activity) (n : ℕ) → IsOneDay day_start (at + 1) n → (break_ok s.rest_break at x && week_ok days day_start s.week at x) ≡ true →
-    goes_three berth days day_start s at x n (us_ends berth s.split x) ≡ span_three days day_start s at x (suc n) (ends_span berth s.split x (suc n))
+    goes_three berth days day_start s at x n (ends_of US berth us_fits s.split x) ≡ span_three days day_start s at x (suc n) (ends_span berth s.split x (suc n))
 ends_first berth days day_start s at Drive n h ok = duty_three berth days day_start s at Drive n refl h ok (nat_eq (run_of s.split) 0)
 ends_first berth days day_start s at Serve n h ok = duty_three berth days day_start s at Serve n refl h ok (nat_eq (run_of s.split) 0)
 ends_first berth days day_start s at Wait n h ok = duty_three berth days day_start s at Wait n refl h ok (nat_eq (run_of s.split) 0)
@@ -458,11 +458,11 @@ ends_first berth days day_start s at Berth n h ok = ap (λ o. nexts_made o None 
 ok_first : (days day_start : ℕ) (s : UsState) (at : ℕ) (x : Activity) (n : ℕ) → span_ok days day_start s at x (suc n) ≡ true → (break_ok s.rest_break at x && week_ok days day_start s.week at x) ≡ true
 ok_first days day_start s at Drive n h =
     let ys : List ℕ = turned (begins_day day_start at) s.week.sums in
-    let a = both_true (nat_le (s.rest_break.driven + suc n) US_UNBROKEN_LIMIT) (nat_le (sum (added (suc n) ys)) (us_week_limit days)) h in
+    let a = and_parts (nat_le (s.rest_break.driven + suc n) US_UNBROKEN_LIMIT) (nat_le (sum (added (suc n) ys)) (us_week_limit days)) h in
     let u = upto (s.rest_break.driven + suc n) US_UNBROKEN_LIMIT a.0 in
     let v = upto (sum (added (suc n) ys)) (us_week_limit days) a.1 in
     let w = sum_added n ys in
-    true_both (nat_lt s.rest_break.driven US_UNBROKEN_LIMIT) (nat_le (sum (added 1 ys)) (us_week_limit days))
+    and_from (nat_lt s.rest_break.driven US_UNBROKEN_LIMIT) (nat_le (sum (added 1 ys)) (us_week_limit days))
     (lt_is_le s.rest_break.driven US_UNBROKEN_LIMIT ∙ is_upto (s.rest_break.driven + 1) US_UNBROKEN_LIMIT (omega arith)) (is_upto (sum (added 1 ys)) (us_week_limit days) (omega arith))
 ok_first days day_start s at Serve n h = refl
 ok_first days day_start s at Wait n h = refl
@@ -476,9 +476,9 @@ spans_are berth days day_start s at x n h =
     let f = λ (t : Next UsState). marked_next t.mark (goes_on berth days day_start (Some t.state) (at + 1) x n) in
     elim (cases_Bool (break_ok s.rest_break at x && week_ok days day_start s.week at x)) [
       | inl ok ↦
-          let q = both_true (break_ok s.rest_break at x) (week_ok days day_start s.week at x) ok in
+          let q = and_parts (break_ok s.rest_break at x) (week_ok days day_start s.week at x) ok in
           sym (ap listed (ends_first berth days day_start s at x n h ok))
-          ∙ (advances_are berth days day_start (nexts_by (break_after s.rest_break at x) (week_after day_start s.week at x) (at - run_of s.split) (us_ends berth s.split x)) (at + 1) x n
+          ∙ (advances_are berth days day_start (nexts_by (break_after s.rest_break at x) (week_after day_start s.week at x) (at - run_of s.split) (ends_of US berth us_fits s.split x)) (at + 1) x n
           ∙ ap (flat_map f) (nexts_of_ends berth days day_start s at x q.0 q.1))
       | inr forbids ↦
           let refused : span_ok days day_start s at x (suc n) ≡ false = elim (cases_Bool (span_ok days day_start s at x (suc n))) [
@@ -516,7 +516,7 @@ span_found berth days day_start s at x n rest_break week start e a b c some left
     ∙ (ap (λ v. listed (nexts_by v week start e)) p ∙ (ap (λ v. listed (nexts_by (break_span s.rest_break x n) v start e)) q
     ∙ (ap (λ v. listed (nexts_by (break_span s.rest_break x n) (week_span day_start s.week at x n) v e)) r
     ∙ (ap (λ v. listed (spans_by day_start s at x n v)) u
-    ∙ (ap (λ v. listed (if v then spans_by day_start s at x n (ends_span berth s.split x n) else nexts_made None None None)) (sym (true_both (break_span_ok s.rest_break x n) (week_span_ok days day_start s.week at x n) ok fits))
+    ∙ (ap (λ v. listed (if v then spans_by day_start s at x n (ends_span berth s.split x n) else nexts_made None None None)) (sym (and_from (break_span_ok s.rest_break x n) (week_span_ok days day_start s.week at x n) ok fits))
     ∙ subst (λ j. listed (span_three days day_start s at x j (ends_span berth s.split x j)) ≡ us_advances berth days day_start s at x j) k (spans_are berth days day_start s at x m (one_day_left day_start at n left)))))))
 
 -- and where the rules forbid one of them

@@ -4,7 +4,7 @@ use Rattle.std.specs.Prelude.{None, Some, replicate, All}
 use Rattle.std.proofs.lemmas.Bool.{cases_lt, cases_eq}
 use Rattle.std.proofs.lemmas.Bool.Decides.{nat_tests}
 use Rattle.std.proofs.lemmas.List.{length-replicate}
-use Rattle.std.proofs.lemmas.List.Elements.{All-cons, All-tail, All-take, All-replicate}
+use Rattle.std.proofs.lemmas.List.Elements.{All-replicate}
 use Rattle.duty_core.specs.declared.activity.Activity.{Activity}
 use Rattle.duty_core.specs.declared.activity.Activity.TheVariants.{Drive, Serve, Wait, Off, Berth}
 use Rattle.duty_core.specs.declared.limits.TheConstants.{DAY_MINUTES, US_BREAK, US_UNBROKEN_LIMIT, US_RESTART, US_SHORT_WEEK}
@@ -13,6 +13,7 @@ use Rattle.rule_core.specs.Reach.{IsOneOf}
 use Rattle.day_sums.specs.Sums.{IsDays, added, cleared, today}
 use Rattle.day_sums.specs.Laws.SumLaws.{length-added, today_rolled, today_cleared, today_added}
 use Rattle.day_sums.specs.Counted.{turned, after_rest}
+use Rattle.day_sums.specs.Laws.Within.{within_turned, within_added, within_rested}
 use Rattle.day_sums.specs.Laws.Counted.{length-turned}
 use Rattle.sleeper_split.specs.declared.rule.TheConstants.SplitRule.{US}
 use Rattle.sleeper_split.specs.Covers.{IsCountOf}
@@ -67,23 +68,6 @@ record IsWeekCount (days day_start : ℕ) (c : WeekCount) (at : ℕ) : Type 0 wh
   within : All (λ n. n ≤ DAY_MINUTES) c.sums
   day : today c.sums ≤ day_so_far day_start at
 
-within_turned : (turn : Bool) (sums : List ℕ) → All (λ n. n ≤ DAY_MINUTES) sums → All (λ n. n ≤ DAY_MINUTES) (turned turn sums)
-within_turned true sums h = All-take (λ n. n ≤ DAY_MINUTES) (length sums) (0 ∷ sums) (All-cons (λ n. n ≤ DAY_MINUTES) 0 sums (omega arith) h)
-within_turned false sums h = h
-
-within_cleared : (sums : List ℕ) → All (λ n. n ≤ DAY_MINUTES) (cleared sums)
-within_cleared sums = All-replicate (λ n. n ≤ DAY_MINUTES) (length sums) 0 (omega arith)
-
-within_added : (sums : List ℕ) → today sums + 1 ≤ DAY_MINUTES → All (λ n. n ≤ DAY_MINUTES) sums → All (λ n. n ≤ DAY_MINUTES) (added 1 sums)
-within_added [] l h = h
-within_added (x ∷ xs) l h = All-cons (λ n. n ≤ DAY_MINUTES) (x + 1) xs l (All-tail (λ n. n ≤ DAY_MINUTES) x xs h)
-
-within_rested : (run : ℕ) (sums : List ℕ) → All (λ n. n ≤ DAY_MINUTES) sums → All (λ n. n ≤ DAY_MINUTES) (after_rest US_RESTART run sums)
-within_rested run sums h = elim (cases_lt run US_RESTART) [
-  | inl l ↦ (let e : after_rest US_RESTART run sums ≡ sums = grind (arith, nat_tests) in subst (All (λ n. n ≤ DAY_MINUTES)) (sym e) h)
-  | inr l ↦ (let e : after_rest US_RESTART run sums ≡ cleared sums = grind (arith, nat_tests) in subst (All (λ n. n ≤ DAY_MINUTES)) (sym e) (within_cleared sums))
-]
-
 day_after : (day_start at : ℕ) → day_so_far day_start (at + 1) ≡ (at + (DAY_MINUTES - day_start)) % DAY_MINUTES + 1
 day_after day_start at = omega arith
 
@@ -97,7 +81,7 @@ rest_week_kept : (days day_start : ℕ) (c : WeekCount) (at : ℕ) → IsWeekCou
 rest_week_kept days day_start c at h = record {
   rest = omega arith;
   days_counted = length-after_rest (c.rest + 1) (turned (begins_day day_start at) c.sums) ∙ (length-turned (begins_day day_start at) c.sums ∙ h.days_counted);
-  within = within_rested (c.rest + 1) (turned (begins_day day_start at) c.sums) (within_turned (begins_day day_start at) c.sums h.within);
+  within = within_rested US_RESTART (c.rest + 1) (turned (begins_day day_start at) c.sums) (within_turned (begins_day day_start at) c.sums h.within);
   day =
       let a = day_before day_start at c.sums h.day in
       let b = day_after day_start at in

@@ -8,14 +8,14 @@ use Rattle.duty_core.specs.declared.activity.Activity.{Activity}
 use Rattle.duty_core.specs.declared.activity.Activity.TheVariants.{Drive, Serve, Wait, Off, Berth}
 use Rattle.duty_core.specs.declared.params.Params.TheVariants.{UsProperty}
 use Rattle.duty_core.specs.declared.limits.TheConstants.{DAY_MINUTES, US_RESTART, PADDING_MINUTES}
-use Rattle.duty_core.specs.Activity.{rests, drives}
-use Rattle.duty_core.specs.History.{unit_at, pad_units, padding}
+use Rattle.duty_core.specs.Activity.{rests}
+use Rattle.duty_core.specs.History.{pad_units, padding}
 use Rattle.duty_core.specs.Laws.HistoryLaws.{unit_at-last, length-one_more}
 use Rattle.duty_core.specs.Laws.RunLaws.{ends_padding}
 use Rattle.duty_core.specs.Counting.{duty, IsDaysBase}
 use Rattle.duty_core.specs.UsRules.{us_week_limit, MeetsUsWeek}
 use Rattle.duty_core.specs.Laws.RuleLaws.{us_week_is_rule}
-use Rattle.rule_core.specs.Laws.Guard.{IsGuard}
+use Rattle.rule_core.specs.Laws.Guard.{not_driving, IsGuard}
 use Rattle.day_sums.specs.Sums.{first_days, added, cleared}
 use Rattle.day_sums.specs.Laws.SumLaws.{length-added, length-cleared}
 use Rattle.day_sums.specs.Counted.{TracksDays, IsDutyOfDays, turned, after_rest}
@@ -120,9 +120,6 @@ has_week days day_start first p c at some e h =
       all = λ f b. subst (λ j. duty q f j ≡ sum sums) end
           (duty_is (us_day day_start first) US_RESTART q days f (first_days days sums) d (subst (λ i. IsDaysBase (us_day day_start first) days US_RESTART q i f) (sym last) b) ∙ whole);
     }
-
-not_driving : (p : List Activity) (x : Activity) → drives x ≡ false → unit_at (p ++ x ∷ []) (length p) ≡ Drive → ⊥
-not_driving p x d e = let z : true ≡ false = sym (ap drives e) ∙ (ap drives (unit_at-last p x) ∙ d) in cc
 
 week_sound : (days day_start first : ℕ) (p : List Activity) (c : WeekCount) (at : ℕ) (x : Activity) → 0 < days → at + PADDING_MINUTES ≡ first + length p → TracksWeek days day_start first p c →
     week_ok days day_start c at x ≡ true → MeetsUsWeek days (us_day day_start first) (p ++ x ∷ []) (length p)

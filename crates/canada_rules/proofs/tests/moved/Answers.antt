@@ -2,7 +2,8 @@ use Rattle.std.proofs.Common.{◌≡◌, Some}
 use Rattle.std.specs.Option.{option_to_list}
 use Rattle.duty_core.specs.Params.{unit_minutes}
 use Rattle.rule_core.specs.Reach.{IsOneOf}
-use Rattle.canada_rules.proofs.NextLaws.{first_listed, last_listed, equal_units_state}
+use Rattle.rule_core.specs.Laws.ListedLaws.{first_listed, last_listed}
+use Rattle.rule_core.specs.Laws.ReachLaws.{equal_units_state}
 use Rattle.canada_rules.proofs.tests.moved.Goals as goal
 
 -- what an advance gives is reached, and so is a state

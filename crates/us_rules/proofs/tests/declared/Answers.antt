@@ -1,6 +1,6 @@
 use Rattle.std.proofs.Common.{◌≡◌, Some}
 use Rattle.rule_core.specs.Reach.{IsOneOf}
-use Rattle.us_rules.proofs.NextLaws.{middle_listed}
+use Rattle.rule_core.specs.Laws.ListedLaws.{middle_listed}
 use Rattle.us_rules.proofs.tests.declared.Goals as goal
 
 -- a successor is a state

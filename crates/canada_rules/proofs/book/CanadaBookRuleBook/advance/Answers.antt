@@ -2,13 +2,14 @@ use Rattle.std.proofs.Common.{◌≡◌, ℕ, ◌+◌, ◌-◌, Some, suc, ◌�
 use Rattle.std.specs.Prelude.{flat_map}
 use Rattle.std.specs.Option.{option_to_list}
 use Rattle.rule_core.specs.declared.nexts.Next.{Next}
-use Rattle.rule_core.specs.Reach.{listed, IsOneOf}
+use Rattle.rule_core.specs.Reach.{nexts_made, listed, IsOneOf}
 use Rattle.rule_core.specs.Laws.RefusalLaws.{given_refused}
 use Rattle.canada_rules.specs.declared.state.CanadaState.{CanadaState}
 use Rattle.canada_rules.specs.Machine.{ca_may, goes_on, ca_advances}
 use Rattle.canada_rules.specs.Stretch.{IsGoing}
 use Rattle.canada_rules.specs.Laws.Stretch.{next_goes}
-use Rattle.canada_rules.specs.Laws.Ends.{nexts_made, advances_are, is_listed}
+use Rattle.rule_core.specs.Laws.ListedLaws.{is_listed}
+use Rattle.canada_rules.specs.Laws.Ends.{advances_are}
 use Rattle.canada_rules.specs.Laws.Single.{ca_refuses_units}
 use Rattle.canada_rules.proofs.book.CanadaBookRuleBook.advance.Goals as goal
 

@@ -1,4 +1,4 @@
-use Rattle.std.proofs.Common.{◌≡◌, ◌+◌, ◌≤◌, subst, sym}
+use Rattle.std.proofs.Common.{◌+◌, ◌≤◌, subst, sym}
 use Rattle.duty_core.specs.declared.limits.TheConstants.{DAY_MINUTES}
 use Rattle.day_sums.specs.Sums.{today}
 use Rattle.day_sums.proofs.KeptLaws.{kept_added}

@@ -1,4 +1,4 @@
-use Rattle.std.proofs.Common.{◌≡◌, ℕ, ◌+◌, ◌-◌, ◌<◌, ◌≤◌, length, refl, sym, ◌∙◌, ap, subst, arith, zero, suc}
+use Rattle.std.proofs.Common.{◌≡◌, ℕ, ◌-◌, length, sym, ◌∙◌, ap, arith, suc}
 use Rattle.day_sums.specs.Sums.{first_days, leaves_no_less}
 use Rattle.day_sums.specs.Laws.LeftLaws.{one_passes, one_fails}
 use Rattle.day_sums.proofs.sums.DaySums.leaves_no_less.Goals as goal

@@ -1,4 +1,4 @@
-use Rattle.std.proofs.Common.{◌≡◌, ◌^◌, ◌<◌, take, subst, sym}
+use Rattle.std.proofs.Common.{◌^◌, ◌<◌, take, subst, sym}
 use Rattle.std.specs.Prelude.{sum}
 use Rattle.day_sums.proofs.KeptLaws.{sums_fit}
 use Rattle.day_sums.proofs.sums.DaySums.left_after.Goals as goal

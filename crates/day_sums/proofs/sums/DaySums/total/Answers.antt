@@ -1,4 +1,4 @@
-use Rattle.std.proofs.Common.{◌≡◌, ◌^◌, ◌<◌, subst, sym}
+use Rattle.std.proofs.Common.{◌^◌, ◌<◌, subst, sym}
 use Rattle.std.specs.Prelude.{sum}
 use Rattle.day_sums.proofs.KeptLaws.{sum_fits}
 use Rattle.day_sums.proofs.sums.DaySums.total.Goals as goal

@@ -13,13 +13,13 @@ returns c =
     let s = c.args.state.now in
     let book = c.args.self.now in
     let x = c.args.act in
-    span_found book.berth book.days book.day_start s c.args.at x c.args.n c.after-rest_break.result c.week_after-week.result c.saturating_sub.result c.of-ends.result
+    span_found book.berth book.days book.day_start s c.args.at x c.args.n c.after-rest_break.result c.week_after-week.result c.saturating_sub.result c.ends_of-ends.result
     c.next_by.result c.next_by-2.result c.next_by-3.result c.requires.some c.requires.one_day
     (sym c.allows.ensures ∙ c.if-not-allows.false)
     (ap (λ w. cond (drives x) (nat_le (sum w.sums) (us_week_limit book.days)) true) (sym c.week_after-week.ensures) ∙ (sym c.week_allows.ensures ∙ c.if-not-week_allows.false))
     c.after-rest_break.ensures c.week_after-week.ensures
     (c.saturating_sub.ensures ∙ ap (λ r. c.args.at - r.long) c.run.ensures)
-    c.of-ends.ensures c.next_by.ensures c.next_by-2.ensures c.next_by-3.ensures
+    c.ends_of-ends.ensures c.next_by.ensures c.next_by-2.ensures c.next_by-3.ensures
 
 either_false : (a b : Bool) → (a ≡ false) ⊎ (b ≡ false) → (a && b) ≡ false
 either_false true b h = elim h [ inl e ↦ absurd (let z : true ≡ false = e in cc) | inr e ↦ e ]

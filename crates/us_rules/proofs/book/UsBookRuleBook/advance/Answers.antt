@@ -1,11 +1,11 @@
 use Rattle.std.proofs.Common.{ℕ, ◌+◌, ◌-◌, ◌∙◌, ap, subst, arith}
-use Rattle.rule_core.specs.Reach.{listed, IsOneOf}
+use Rattle.rule_core.specs.Reach.{nexts_made, listed, IsOneOf}
 use Rattle.rule_core.specs.Laws.RefusalLaws.{given_refused}
 use Rattle.us_rules.specs.Machine.{IsUsState, us_advances}
 use Rattle.us_rules.specs.Laws.States.{some_days}
 use Rattle.us_rules.specs.Advance.{IsSteady}
-use Rattle.us_rules.specs.Ends.{nexts_made, onward}
-use Rattle.us_rules.specs.Laws.Ends.{is_listed}
+use Rattle.rule_core.specs.Laws.ListedLaws.{is_listed}
+use Rattle.us_rules.specs.Ends.{onward}
 use Rattle.us_rules.specs.Laws.Spans.{advances_kept, advances_more}
 use Rattle.us_rules.specs.Laws.Single.{us_refuses_units}
 use Rattle.us_rules.proofs.book.UsBookRuleBook.advance.Goals as goal
