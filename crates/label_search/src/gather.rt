@@ -15,36 +15,42 @@ use crate::order::put_in_order;
 use cert_text::is_pruned;
 use duty_core::{Activity, NoMemory};
 use label_extend::{Grown, successors};
-use label_state::{Kept, Label};
+use label_state::{Kept, Label, Place};
 use rule_core::{Root, RuleBook};
 use std::alloc::Global;
 use tour_model::Tour;
 
-/// Adds the successors of the label at the place `parent` of this step's layer that are not pruned.
+/// A label that grows, and its place: the step of its layer, and where it stands there.
+#[derive(Drop)]
+struct Parent<'a, S> {
+    place: Place,
+    label: &'a Label<S>,
+}
+
+/// Adds the successors of the label that are not pruned.
 fn gather_from<B: RuleBook>(
     alloc: Global,
     book: &B,
     tour: &Tour,
     limit: Option<u32>,
-    step: u32,
-    parent: u32,
-    label: &Label<B::State>,
+    parent: Parent<'_, B::State>,
     list: &mut Vec<Kept<B::State>>,
 ) -> Result<(), NoMemory>
     requires tour { IsTour tour.now }
     requires params { (B.machine book.now).params ≡ tour.now.params }
-    requires label { IsLabelAt (state_at tour.now (B.machine book.now)) (word_length tour.now) step label.now }
-    requires step { step + 1 < STEP_LIMIT }
-    ensures ok { OnOk result (Gathers (problem_of tour.now (B.machine book.now)) limit (step + 1) parent
-        (successors_of (problem_of tour.now (B.machine book.now)) step label.now) list.old.items list.new.items) }
+    requires label { IsLabelAt (state_at tour.now (B.machine book.now)) (word_length tour.now) parent.place.layer parent.label.now }
+    requires step { parent.place.layer + 1 < STEP_LIMIT }
+    ensures ok { OnOk result (Gathers (problem_of tour.now (B.machine book.now)) limit (parent.entry.place.layer + 1) parent.entry.place.index
+        (successors_of (problem_of tour.now (B.machine book.now)) parent.entry.place.layer parent.entry.label.now) list.old.items list.new.items) }
 {
-    for grown in successors(alloc, book, tour, label, step)?.into_vec() {
+    let Place { layer: step, index } = parent.place;
+    for grown in successors(alloc, book, tour, parent.label, step)?.into_vec() {
         let Grown { label, act, mark } = grown;
         let eta = tour.eta(step + 1, label.progress);
         if !is_pruned(limit, label.depart, eta) {
             list.push(Kept {
                 label,
-                parent,
+                parent: index,
                 act,
                 mark,
             })?;
@@ -74,16 +80,12 @@ pub fn gather<B: RuleBook>(
 {
     let mut list = Vec::new(alloc);
     for (index, kept) in layer.iter().enumerate() {
-        gather_from(
-            alloc,
-            book,
-            tour,
-            limit,
-            step,
-            index as u32,
-            &kept.label,
-            &mut list,
-        )?;
+        let place = Place {
+            layer: step,
+            index: index as u32,
+        };
+        let label = &kept.label;
+        gather_from(alloc, book, tour, limit, Parent { place, label }, &mut list)?;
     }
     put_in_order(&mut list)?;
     Ok(list)

@@ -14,7 +14,7 @@ use Rattle.label_search.proofs.gather.gather_from.Goals as goal
 use Rattle.label_search.proofs.gather.gather_from.Goals.{In-Some}
 
 -- this iteration's successor is a label of the next step
-label_of : (g : _) (c : In-Some g) → IsLabelAt (state_at c.args.tour.now (g.B.RuleBook.machine c.args.book.now)) (word_length c.args.tour.now) (c.args.step + 1) c.in-Some.grown.label
+label_of : (g : _) (c : In-Some g) → IsLabelAt (state_at c.args.tour.now (g.B.RuleBook.machine c.args.book.now)) (word_length c.args.tour.now) (c.args.parent.place.layer + 1) c.in-Some.grown.label
 label_of g c =
     let xs = c.into_vec-grown-items.result.items in
     let i = c.into_iter-grown-iterator.ensures.into_iter_gives in
@@ -31,9 +31,9 @@ loop-grown-preserved-in_ok-push g c =
     record {
       can = tt;
       finite = tt;
-      gathered = gathers_on problem c.args.limit (c.args.step + 1) c.args.parent c.loop-grown.yielded (c.in-Some.grown ∷ []) c.args.list.now.items c.loop-grown.list.items c.push.new.self.items c.loop-grown.invariant.gathered
-          (subst (λ ys. Gathers problem c.args.limit (c.args.step + 1) c.args.parent (c.in-Some.grown ∷ []) c.loop-grown.list.items ys) (sym c.in_ok-push.ensures.items)
-          (gathers_pushed problem c.args.limit (c.args.step + 1) c.args.parent c.in-Some.grown c.loop-grown.list.items
+      gathered = gathers_on problem c.args.limit (c.args.parent.place.layer + 1) c.args.parent.place.index c.loop-grown.yielded (c.in-Some.grown ∷ []) c.args.list.now.items c.loop-grown.list.items c.push.new.self.items c.loop-grown.invariant.gathered
+          (subst (λ ys. Gathers problem c.args.limit (c.args.parent.place.layer + 1) c.args.parent.place.index (c.in-Some.grown ∷ []) c.loop-grown.list.items ys) (sym c.in_ok-push.ensures.items)
+          (gathers_pushed problem c.args.limit (c.args.parent.place.layer + 1) c.args.parent.place.index c.in-Some.grown c.loop-grown.list.items
           (λ off. iff_false c.is_pruned.ensures c.if-not-is_pruned.true (subst (IsPrunedAt c.args.limit l.depart) (sym c.eta-eta.ensures.value) off))));
     }
 
@@ -44,8 +44,8 @@ loop-grown-preserved g c =
     record {
       can = tt;
       finite = tt;
-      gathered = gathers_on problem c.args.limit (c.args.step + 1) c.args.parent c.loop-grown.yielded (c.in-Some.grown ∷ []) c.args.list.now.items c.loop-grown.list.items c.loop-grown.list.items c.loop-grown.invariant.gathered
-          (gathers_pruned problem c.args.limit (c.args.step + 1) c.args.parent c.in-Some.grown c.loop-grown.list.items
+      gathered = gathers_on problem c.args.limit (c.args.parent.place.layer + 1) c.args.parent.place.index c.loop-grown.yielded (c.in-Some.grown ∷ []) c.args.list.now.items c.loop-grown.list.items c.loop-grown.list.items c.loop-grown.invariant.gathered
+          (gathers_pruned problem c.args.limit (c.args.parent.place.layer + 1) c.args.parent.place.index c.in-Some.grown c.loop-grown.list.items
           (subst (IsPrunedAt c.args.limit l.depart) c.eta-eta.ensures.value (c.is_pruned.ensures.0 c.if-not-is_pruned.false)));
     }
 
@@ -56,6 +56,6 @@ returns g c =
     let i = c.into_iter-grown-iterator.ensures.into_iter_gives in
     let t = YieldsList-end (YieldsList-from_vec {s = c.into_iter-grown-iterator.result} xs i.0 (omega arith)) c.loop-grown.yielded c.loop-grown.grown-iterator c.loop-grown.yielded_by c.next.result c.next.new.self c.in-None.is c.next.ensures.steps in
     record {
-      ok = subst (λ gs. Gathers problem c.args.limit (c.args.step + 1) c.args.parent gs c.args.list.now.items c.loop-grown.list.items)
+      ok = subst (λ gs. Gathers problem c.args.limit (c.args.parent.place.layer + 1) c.args.parent.place.index gs c.args.list.now.items c.loop-grown.list.items)
           (sym (map-id c.loop-grown.yielded) ∙ (t.0 ∙ (c.into_vec-grown-items.ensures ∙ c.in_ok-successors.ensures.exact))) c.loop-grown.invariant.gathered;
     }

@@ -7,6 +7,6 @@ abbrev pub invariant-loop-grown : goal.invariant-loop-grown
 invariant-loop-grown g l = record {
   can : (goal.iterator-loop-grown g).can_next l.grown-iterator;
   finite : (goal.iterator-loop-grown g).is_finite l.grown-iterator;
-  gathered : Gathers (problem_of l.tour (g.B.RuleBook.machine l.book)) l.limit (l.step + 1) l.parent
+  gathered : Gathers (problem_of l.tour (g.B.RuleBook.machine l.book)) l.limit (l.parent.place.layer + 1) l.parent.place.index
       l.yielded l.initial.list.items l.list.items;
 }
