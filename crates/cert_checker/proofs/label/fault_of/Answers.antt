@@ -1,4 +1,4 @@
-use Rattle.std.proofs.Common.{◌+◌, ◌<◌, ◌≤◌, take, sym, ◌∙◌, subst, arith}
+use Rattle.std.proofs.Common.{◌≤◌, take, sym, ◌∙◌, subst, arith}
 use Rattle.tour_model.specs.Word.{word_length}
 use Rattle.cert_text.specs.Planning.{problem_of, state_at, minute_of}
 use Rattle.cert_text.specs.Cover.{IsLabelAt, NoneCovers}
