@@ -1,9 +1,7 @@
 -- What a state of a book is: of the root, and of each successor.
-use Rattle.std.proofs.Common.{◌≡◌, ℕ, ◌+◌, ◌≤◌, Bool, true, false, List, [], ◌∷◌, length, refl, sym, ◌∙◌, ap, subst, arith, inl, inr}
+use Rattle.std.proofs.Common.{◌≡◌, ℕ, ◌+◌, ◌≤◌, Bool, List, refl, sym, ◌∙◌, ap, subst, arith, inl, inr}
 use Rattle.std.specs.Prelude.{Some, All}
-use Rattle.std.proofs.lemmas.Bool.{cases_lt}
-use Rattle.std.proofs.lemmas.Bool.Decides.{nat_tests}
-use Rattle.std.proofs.lemmas.List.Elements.{All-cons, All-tail, All-take, All-replicate}
+use Rattle.std.proofs.lemmas.List.Elements.{All-replicate}
 use Rattle.duty_core.specs.declared.activity.Activity.{Activity}
 use Rattle.duty_core.specs.declared.activity.Activity.TheVariants.{Serve}
 use Rattle.duty_core.specs.declared.params.RestWay.{RestWay}
@@ -11,7 +9,7 @@ use Rattle.duty_core.specs.declared.limits.TheConstants.{DAY_MINUTES}
 use Rattle.duty_core.specs.CaCycle.{cycle_days, cycle_reset}
 use Rattle.rule_core.specs.declared.nexts.Next.{Next}
 use Rattle.rule_core.specs.Reach.{IsOneOf}
-use Rattle.day_sums.specs.Sums.{added, cleared, today}
+use Rattle.day_sums.specs.Sums.{today}
 use Rattle.day_sums.specs.Counted.{turned}
 use Rattle.day_sums.specs.Laws.Within.{within_turned, within_added, within_rested}
 use Rattle.cycles_deferral.specs.declared.cycle.CycleCount.{CycleCount}

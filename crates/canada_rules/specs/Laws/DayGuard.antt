@@ -13,7 +13,7 @@ use Rattle.duty_core.specs.declared.params.RestWay.TheVariants.{Split}
 use Rattle.duty_core.specs.declared.params.Params.TheVariants.{Canada}
 use Rattle.duty_core.specs.declared.limits.TheConstants.{PADDING_MINUTES, DAY_MINUTES, CA_DAY_DRIVING_LIMIT, CA_DAY_DUTY_LIMIT}
 use Rattle.duty_core.specs.Activity.{drives, works}
-use Rattle.duty_core.specs.History.{unit_at, pad_units, padding}
+use Rattle.duty_core.specs.History.{pad_units, padding}
 use Rattle.duty_core.specs.Laws.HistoryLaws.{IsRule, unit_at-last, length-one_more}
 use Rattle.duty_core.specs.Day.{IsFirstOfDays}
 use Rattle.duty_core.specs.Counting.{driving, duty}

@@ -15,10 +15,9 @@ use Rattle.duty_core.specs.declared.rule.Rule.TheVariants.{CaDay13, CaDay14, CaS
 use Rattle.duty_core.specs.declared.limits.TheConstants.{CA_FULL_REST, PADDING_MINUTES, COUNT_LIMIT, DAY_MINUTES}
 use Rattle.duty_core.specs.Activity.{rests}
 use Rattle.duty_core.specs.History.{unit_at, pad_units, padding, padded, IsTimed}
-use Rattle.duty_core.specs.Laws.HistoryLaws.{AreAlike, unit_at-append, unit_at-replicate}
+use Rattle.duty_core.specs.Laws.HistoryLaws.{unit_at-append, unit_at-replicate}
 use Rattle.duty_core.specs.Day.{day_number}
 use Rattle.duty_core.specs.Marks.{IsSplitAt, IsMinuteOf, AreInOrder}
-use Rattle.duty_core.specs.DeclaredRest.{ArePairedAt}
 use Rattle.duty_core.specs.CaDay.{MeetsCaDay13, MeetsCaDay14}
 use Rattle.duty_core.specs.CaShift.{MeetsCaShift13, MeetsCaShift14, MeetsCaElapsed16, IsCaPair, MeetsCaPair}
 use Rattle.duty_core.specs.RuleBooks.{Keeps, KeepsAll}
@@ -44,7 +43,7 @@ use Rattle.canada_rules.specs.Laws.DayGuard.{MeetsDay, TracksDay, day_is_guard, 
 use Rattle.canada_rules.specs.Laws.Paths.{AreNamed, named_same, IsMay, CaReaches, IsCaPath, ca_path, path_ca}
 use Rattle.sleeper_split.specs.Promises.{MeetsCanadaShift}
 use Rattle.sleeper_split.specs.Laws.SameMarks.{AreSame, same_back, marked_alike, paired_same, same_marks}
-use Rattle.sleeper_split.specs.Laws.Places.{mark_at, minute_means, means_minute, contains-map, HaveMinutes, marked_place, place_marked, marks_ordered, HasPlace, place_of, marks_again, places_have, places_ordered}
+use Rattle.sleeper_split.specs.Laws.Places.{mark_at, minute_means, means_minute, contains-map, HaveMinutes, marks_ordered, HasPlace, place_of, marks_again, places_have, places_ordered}
 
 -- # One history, its runs marked in two ways
 
