@@ -6,7 +6,7 @@ use Rattle.std.proofs.Math.Nat.{mul-le-mul_right, div-le_self}
 use Rattle.std.proofs.lemmas.List.{length-append}
 use Rattle.civil_minutes.specs.declared.century.TheConstants.{MINUTES_OF_CENTURY}
 use Rattle.duty_core.specs.declared.activity.Activity.{Activity}
-use Rattle.duty_core.specs.declared.limits.TheConstants.{LONGEST_HISTORY, LONGEST_LOG}
+use Rattle.duty_core.specs.declared.limits.TheConstants.{DAY_MINUTES, LONGEST_HISTORY, LONGEST_LOG, PADDING_MINUTES}
 use Rattle.duty_core.specs.declared.mark.Mark.{Mark}
 use Rattle.duty_core.specs.declared.params.Params.{Params}
 use Rattle.duty_core.specs.declared.params.Params.TheVariants.{UsProperty, Canada, Hvnl}
@@ -26,10 +26,10 @@ use Rattle.report_text.proofs.MarkTimes.{mark_times}
 pub record IsPlaced (tour : Tour) (log xs : List Activity) : Type 0 where
   pub begins : BeginsUnit tour.params (log_start tour log)
   pub starts : unit_minutes tour.params * length log ≤ tour.start
-  pub early : 41_760 ≤ log_start tour log
+  pub early : PADDING_MINUTES + DAY_MINUTES ≤ log_start tour log
   pub long : length (history_of tour log xs) ≤ LONGEST_HISTORY
   pub ends : log_start tour log + unit_minutes tour.params * length (history_of tour log xs) ≤ MINUTES_OF_CENTURY
-  pub padded_ends : log_start tour log + length (history_of tour log xs) + 40_320 ≤ MINUTES_OF_CENTURY
+  pub padded_ends : log_start tour log + length (history_of tour log xs) + PADDING_MINUTES ≤ MINUTES_OF_CENTURY
   pub thereafter : length log ≤ length (history_of tour log xs)
 
 -- so many units after a log end within the century
