@@ -8,6 +8,7 @@ use Rattle.duty_core.specs.declared.rule.Rule.{Rule}
 use Rattle.duty_core.specs.Marks.{mark_minute}
 use Rattle.duty_core.specs.RuleNames.{rule_name}
 use Rattle.std.specs.Fmt.{decimal}
+use Rattle.cert_text.specs.Reading.{same_act}
 use Rattle.tour_model.specs.declared.piece.Piece.{Piece}
 use Rattle.tour_model.specs.declared.piece.Piece.TheVariants as piece
 use Rattle.tour_model.specs.declared.schedule.Schedule.{Schedule}
@@ -41,15 +42,6 @@ doings tour progress [] = []
 doings tour progress (act ∷ acts) = doing_at tour progress act ∷ doings tour (done progress act) acts
 
 -- ---- runs
-
--- whether two activities are the same
-abbrev pub same_act : Activity → Activity → Bool
-same_act Drive Drive = true
-same_act Serve Serve = true
-same_act Wait Wait = true
-same_act Off Off = true
-same_act Berth Berth = true
-same_act _ _ = false
 
 -- whether two numbers of stops are the same
 abbrev pub same_stop : Option ℕ → Option ℕ → Bool
