@@ -1,5 +1,6 @@
 use crate::{LogFault, read_log};
 use duty_core::{Activity, Minute, Params, RestWay};
+use std::alloc::Global;
 use std::test::Fail;
 use timeline::Run;
 
@@ -35,115 +36,105 @@ fn reads_a_header_alone(rt: HostRuntime) -> Result<(), Fail> {
     Ok(())
 }
 
+/// A run of units of one activity.
+fn run(act: Activity, from: u32, to: u32) -> Run {
+    Run { act, from, to }
+}
+
 #[test]
 fn reads_what_csv_says(rt: HostRuntime) -> Result<(), Fail> {
-    let texts = [
-        b"from,to,status\n2026-03-02T04:00,2026-03-02T04:30,D\n2026-03-02T04:30,2026-03-02T05:00,D\n2026-03-02T05:00,2026-03-02T06:00,SB\n".as_slice(),
-        b"from,to,status\r\n2026-03-02T04:00,2026-03-02T05:00,D\r\n2026-03-02T05:00,2026-03-02T06:00,SB\r\n".as_slice(),
-        b"\xEF\xBB\xBF\"from\",to,status\n\n\"2026-03-02T04:00\",2026-03-02T05:00,\"D\"\n2026-03-02T05:00,2026-03-02T06:00,\"SB".as_slice(),
-    ];
-    for text in texts {
-        let log = read_log(rt.alloc(), text, CANADA, START)?;
+    let minutes = [run(Activity::Drive, 0, 60), run(Activity::Berth, 60, 120)];
+    let quarters = [run(Activity::Serve, 0, 6), run(Activity::Off, 6, 7)];
+    for (text, params, wanted) in [
+        (
+            b"from,to,status\n2026-03-02T04:00,2026-03-02T04:30,D\n2026-03-02T04:30,2026-03-02T05:00,D\n2026-03-02T05:00,2026-03-02T06:00,SB\n".as_slice(),
+            CANADA,
+            minutes,
+        ),
+        (
+            b"from,to,status\r\n2026-03-02T04:00,2026-03-02T05:00,D\r\n2026-03-02T05:00,2026-03-02T06:00,SB\r\n".as_slice(),
+            CANADA,
+            minutes,
+        ),
+        (
+            b"\xEF\xBB\xBF\"from\",to,status\n\n\"2026-03-02T04:00\",2026-03-02T05:00,\"D\"\n2026-03-02T05:00,2026-03-02T06:00,\"SB".as_slice(),
+            CANADA,
+            minutes,
+        ),
+        (
+            b"from,to,status\n2026-03-02T04:15,2026-03-02T05:45,WORK\n2026-03-02T05:45,2026-03-02T06:00,REST\n".as_slice(),
+            AUSTRALIA,
+            quarters,
+        ),
+    ] {
+        let log = read_log(rt.alloc(), text, params, START)?;
         let runs = log.runs();
         assert_eq!(rt; runs.len(), 2);
-        assert_eq!(rt;
-            runs.first(),
-            Some(&Run {
-                act: Activity::Drive,
-                from: 0,
-                to: 60
-            })
-        );
-        assert_eq!(rt;
-            runs.last(),
-            Some(&Run {
-                act: Activity::Berth,
-                from: 60,
-                to: 120
-            })
-        );
+        assert_eq!(rt; runs.first(), Some(&wanted[0]));
+        assert_eq!(rt; runs.last(), Some(&wanted[1]));
     }
     Ok(())
 }
 
 #[test]
-fn reads_australian_units(rt: HostRuntime) -> Result<(), Fail> {
-    let text =
-        b"from,to,status\n2026-03-02T04:15,2026-03-02T05:45,WORK\n2026-03-02T05:45,2026-03-02T06:00,REST\n";
-    let log = read_log(rt.alloc(), text.as_slice(), AUSTRALIA, START)?;
-    let runs = log.runs();
-    assert_eq!(rt; runs.len(), 2);
-    assert_eq!(rt;
-        runs.first(),
-        Some(&Run {
-            act: Activity::Serve,
-            from: 0,
-            to: 6
-        })
-    );
-    assert_eq!(rt;
-        runs.last(),
-        Some(&Run {
-            act: Activity::Off,
-            from: 6,
-            to: 7
-        })
-    );
-    Ok(())
+fn tells_a_bad_header(rt: HostRuntime) {
+    for text in [b"".as_slice(), b"from,to,status,\n".as_slice()] {
+        let fault = read_log(rt.alloc(), text, US, START).err();
+        assert_eq!(rt; fault, Some(LogFault::BadHeader));
+    }
+}
+
+/// The fault of a log with these rows after its header.
+fn fault_of(alloc: Global, rows: &[u8], params: Params) -> Result<Option<LogFault>, Fail> {
+    let mut text = Vec::new(alloc);
+    text.extend_from_slice(b"from,to,status\n")?;
+    text.extend_from_slice(rows)?;
+    Ok(read_log(alloc, &text, params, START).err())
 }
 
 #[test]
-fn tells_the_first_fault(rt: HostRuntime) {
-    let faults = [
-        (b"".as_slice(), US, LogFault::BadHeader),
-        (b"from,to,status,\n".as_slice(), US, LogFault::BadHeader),
+fn tells_the_first_fault(rt: HostRuntime) -> Result<(), Fail> {
+    for (rows, params, fault) in [
+        (b"D,D\n".as_slice(), US, LogFault::NotCsv { row: 1 }),
         (
-            b"from,to,status\nD,D\n".as_slice(),
-            US,
-            LogFault::NotCsv { row: 1 },
-        ),
-        (
-            b"from,to,status\n2026-03-02T04:00,2026-02-29T06:00,D\n".as_slice(),
+            b"2026-03-02T04:00,2026-02-29T06:00,D\n".as_slice(),
             US,
             LogFault::BadTime { row: 1 },
         ),
         (
-            b"from,to,status\n2026-03-02T04:00,2026-03-02T06:00,WORK\n".as_slice(),
+            b"2026-03-02T04:00,2026-03-02T06:00,WORK\n".as_slice(),
             US,
             LogFault::BadStatus { row: 1 },
         ),
         (
-            b"from,to,status\n2026-03-02T06:00,2026-03-02T06:00,D\n".as_slice(),
+            b"2026-03-02T06:00,2026-03-02T06:00,D\n".as_slice(),
             US,
             LogFault::Empty { row: 1 },
         ),
         (
-            b"from,to,status\n2026-03-02T04:00,2026-03-02T05:00,D\n2026-03-02T05:01,2026-03-02T06:00,ON\n".as_slice(),
+            b"2026-03-02T04:00,2026-03-02T05:00,D\n2026-03-02T05:01,2026-03-02T06:00,ON\n".as_slice(),
             US,
             LogFault::Gap { row: 2 },
         ),
         (
-            b"from,to,status\n2026-03-02T05:00,2026-03-02T05:50,WORK\n".as_slice(),
+            b"2026-03-02T05:00,2026-03-02T05:50,WORK\n".as_slice(),
             AUSTRALIA,
             LogFault::NotOnUnit { row: 1 },
         ),
         (
-            b"from,to,status\n2026-02-09T05:59,2026-03-02T06:00,OFF\n".as_slice(),
+            b"2026-02-09T05:59,2026-03-02T06:00,OFF\n".as_slice(),
             US,
             LogFault::TooLong { row: 1 },
         ),
         (
-            b"from,to,status\n2026-02-09T05:59,2026-03-02T05:59,OFF\n".as_slice(),
+            b"2026-02-09T05:59,2026-03-02T05:59,OFF\n".as_slice(),
             US,
             LogFault::EndsElsewhere,
         ),
-    ];
-    for (text, params, fault) in faults {
-        assert_eq!(rt;
-            read_log(rt.alloc(), text, params, START).err(),
-            Some(fault)
-        );
+    ] {
+        assert_eq!(rt; fault_of(rt.alloc(), rows, params)?, Some(fault));
     }
+    Ok(())
 }
 
 #[test]
