@@ -38,7 +38,7 @@ pub(crate) fn last_end(padded: &Padded, least: u32, i: u32) -> Option<u32>
 }
 
 /// How many minutes after midnight a day of the book begins.
-fn start_of_day(params: Params) -> u32
+pub(crate) fn start_of_day(params: Params) -> u32
     ensures { result ≡ day_start params }
 {
     match params {
