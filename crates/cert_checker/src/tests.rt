@@ -5,6 +5,7 @@ ghost use Rattle.tour_model.specs.Tour.{IsStop, IsTour};
 
 use crate::top::check_cert;
 use crate::verdict::{Reason, Verdict};
+use Reason::{Finished, Grammar, Lawful, Length, Repeated, Root, Serves, State, Successor};
 use duty_core::{NoMemory, Params};
 use rule_core::{Replayed, replay};
 use std::alloc::Global;
@@ -114,8 +115,22 @@ fn put_line(text: &mut Vec<u8>, line: &str) -> Result<(), NoMemory> {
     Ok(())
 }
 
-/// The text with so many lines from the line `first` on, counted from 1, replaced by these.
-fn text_with(alloc: Global, first: usize, count: usize, new: &[&str]) -> Result<Vec<u8>, NoMemory> {
+/// A change of the text: so many lines from the line `first` on, counted from 1, are replaced.
+#[derive(Clone, Copy)]
+struct Change<'a> {
+    first: usize,
+    count: usize,
+    new: &'a [&'a str],
+}
+
+/// The change that puts these lines in place of so many.
+fn swap<'a>(first: usize, count: usize, new: &'a [&'a str]) -> Change<'a> {
+    Change { first, count, new }
+}
+
+/// The text after the change.
+fn text_with(alloc: Global, change: Change<'_>) -> Result<Vec<u8>, NoMemory> {
+    let Change { first, count, new } = change;
     let mut text = Vec::new(alloc);
     for (index, line) in LINES.iter().enumerate() {
         let number = index + 1;
@@ -131,18 +146,16 @@ fn text_with(alloc: Global, first: usize, count: usize, new: &[&str]) -> Result<
     Ok(text)
 }
 
-/// Checks that the text with these lines in place of so many is rejected there.
+/// Checks that the text after the change is rejected at this line, for this reason.
 fn is_rejected(
     rt: &impl Abort,
     alloc: Global,
-    first: usize,
-    count: usize,
-    new: &[&str],
+    change: Change<'_>,
     line: u64,
     reason: Reason,
 ) -> Result<(), Fail> {
     let tour = tour_of(alloc, stop_of(alloc)?)?;
-    let text = text_with(alloc, first, count, new)?;
+    let text = text_with(alloc, change)?;
     assert_eq!(rt;
         verdict(alloc, &tour, &text)?,
         Some(Verdict::Rejected { line, reason })
@@ -154,7 +167,7 @@ fn is_rejected(
 fn accepts_a_certificate_by_hand(rt: HostRuntime) -> Result<(), Fail> {
     let alloc = rt.alloc();
     let tour = tour_of(alloc, stop_of(alloc)?)?;
-    let text = text_with(alloc, 1, 0, &[])?;
+    let text = text_with(alloc, swap(1, 0, &[]))?;
     assert_eq!(rt;
         verdict(alloc, &tour, &text)?,
         Some(Verdict::Shortest { steps: 2 })
@@ -167,16 +180,9 @@ fn rejects_each_cut_and_each_line_twice(rt: HostRuntime) -> Result<(), Fail> {
     let alloc = rt.alloc();
     for (index, line) in LINES.iter().enumerate() {
         let number = index as u64 + 1;
-        is_rejected(&rt, alloc, index + 1, 14, &[], number, Reason::Grammar)?;
-        is_rejected(
-            &rt,
-            alloc,
-            index + 1,
-            1,
-            &[*line, *line],
-            number + 1,
-            Reason::Grammar,
-        )?;
+        is_rejected(&rt, alloc, swap(index + 1, 14, &[]), number, Grammar)?;
+        let twice = &[*line, *line];
+        is_rejected(&rt, alloc, swap(index + 1, 1, twice), number + 1, Grammar)?;
     }
     Ok(())
 }
@@ -185,19 +191,19 @@ fn rejects_each_cut_and_each_line_twice(rt: HostRuntime) -> Result<(), Fail> {
 fn rejects_what_is_no_text(rt: HostRuntime) -> Result<(), Fail> {
     let alloc = rt.alloc();
     for line in NO_TARGETS.iter() {
-        is_rejected(&rt, alloc, 3, 1, &[*line], 3, Reason::Grammar)?;
+        is_rejected(&rt, alloc, swap(3, 1, &[*line]), 3, Grammar)?;
     }
-    is_rejected(&rt, alloc, 4, 1, &["schedule 2"], 7, Reason::Grammar)?;
-    is_rejected(&rt, alloc, 4, 1, &["schedule 4"], 8, Reason::Grammar)?;
-    is_rejected(&rt, alloc, 8, 1, &["marks 1"], 9, Reason::Grammar)?;
-    is_rejected(&rt, alloc, 9, 1, &["layers 1"], 12, Reason::Grammar)?;
-    is_rejected(&rt, alloc, 9, 1, &["layers 3"], 14, Reason::Grammar)?;
-    is_rejected(&rt, alloc, 10, 1, &["layer 1 1"], 10, Reason::Grammar)?;
+    is_rejected(&rt, alloc, swap(4, 1, &["schedule 2"]), 7, Grammar)?;
+    is_rejected(&rt, alloc, swap(4, 1, &["schedule 4"]), 8, Grammar)?;
+    is_rejected(&rt, alloc, swap(8, 1, &["marks 1"]), 9, Grammar)?;
+    is_rejected(&rt, alloc, swap(9, 1, &["layers 1"]), 12, Grammar)?;
+    is_rejected(&rt, alloc, swap(9, 1, &["layers 3"]), 14, Grammar)?;
+    is_rejected(&rt, alloc, swap(10, 1, &["layer 1 1"]), 10, Grammar)?;
     let tour = tour_of(alloc, stop_of(alloc)?)?;
-    let mut text = text_with(alloc, 1, 0, &[])?;
+    let mut text = text_with(alloc, swap(1, 0, &[]))?;
     let last = text.pop();
     assert_eq!(rt; last, Some(b'\n'));
-    let reason = Reason::Grammar;
+    let reason = Grammar;
     assert_eq!(rt;
         verdict(alloc, &tour, &text)?,
         Some(Verdict::Rejected { line: 14, reason })
@@ -208,15 +214,15 @@ fn rejects_what_is_no_text(rt: HostRuntime) -> Result<(), Fail> {
 #[test]
 fn names_the_first_condition_on_the_claim_that_fails(rt: HostRuntime) -> Result<(), Fail> {
     let alloc = rt.alloc();
-    is_rejected(&rt, alloc, 3, 1, &["target 3"], 4, Reason::Length)?;
-    is_rejected(&rt, alloc, 5, 2, &["r 1 D", "r 1 O"], 4, Reason::Length)?;
-    is_rejected(&rt, alloc, 6, 2, &["r 1 S", "r 1 D"], 4, Reason::Serves)?;
-    is_rejected(&rt, alloc, 5, 1, &["r 2 O"], 4, Reason::Serves)?;
+    is_rejected(&rt, alloc, swap(3, 1, &["target 3"]), 4, Length)?;
+    is_rejected(&rt, alloc, swap(5, 2, &["r 1 D", "r 1 O"]), 4, Length)?;
+    is_rejected(&rt, alloc, swap(6, 2, &["r 1 S", "r 1 D"]), 4, Serves)?;
+    is_rejected(&rt, alloc, swap(5, 1, &["r 2 O"]), 4, Serves)?;
     let marks = &["marks 1", "m split 2026-03-02T00:00"];
-    is_rejected(&rt, alloc, 8, 1, marks, 8, Reason::Lawful)?;
-    is_rejected(&rt, alloc, 9, 5, &["layers 0"], 9, Reason::Root)?;
-    is_rejected(&rt, alloc, 10, 2, &["layer 0 0"], 10, Reason::Root)?;
-    is_rejected(&rt, alloc, 11, 1, &["l - 0 7"], 10, Reason::Root)
+    is_rejected(&rt, alloc, swap(8, 1, marks), 8, Lawful)?;
+    is_rejected(&rt, alloc, swap(9, 5, &["layers 0"]), 9, Root)?;
+    is_rejected(&rt, alloc, swap(10, 2, &["layer 0 0"]), 10, Root)?;
+    is_rejected(&rt, alloc, swap(11, 1, &["l - 0 7"]), 10, Root)
 }
 
 /// The label of layer 1 with another one after it.
@@ -228,40 +234,18 @@ fn layer_with(label: &str) -> [&str; 3] {
 fn names_the_first_label_that_fails(rt: HostRuntime) -> Result<(), Fail> {
     let alloc = rt.alloc();
     for label in NO_LABELS.iter() {
-        is_rejected(&rt, alloc, 12, 2, &layer_with(*label), 14, Reason::State)?;
+        is_rejected(&rt, alloc, swap(12, 2, &layer_with(*label)), 14, State)?;
     }
-    let finished = "l 0 2 40350 0 0 0 0 40350 0 0 40350 0 0 30 0 2040 0 0 0 0 0 0 0 0";
-    is_rejected(
-        &rt,
-        alloc,
-        12,
-        2,
-        &layer_with(finished),
-        14,
-        Reason::Finished,
-    )?;
-    is_rejected(
-        &rt,
-        alloc,
-        12,
-        2,
-        &layer_with(LINES[12]),
-        14,
-        Reason::Repeated,
-    )?;
+    let finished = layer_with("l 0 2 40350 0 0 0 0 40350 0 0 40350 0 0 30 0 2040 0 0 0 0 0 0 0 0");
+    is_rejected(&rt, alloc, swap(12, 2, &finished), 14, Finished)?;
+    let repeated = layer_with(LINES[12]);
+    is_rejected(&rt, alloc, swap(12, 2, &repeated), 14, Repeated)?;
     // The wait of the first label is not answered by a label that has departed.
-    is_rejected(
-        &rt,
-        alloc,
-        13,
-        1,
-        &["l 0 1 40350 0 0 0 0 40350 0 0 40350 0 0 30 0 2040 0 0 0 0 0 0 0 0"],
-        11,
-        Reason::Successor,
-    )?;
+    let departed = &["l 0 1 40350 0 0 0 0 40350 0 0 40350 0 0 30 0 2040 0 0 0 0 0 0 0 0"];
+    is_rejected(&rt, alloc, swap(13, 1, departed), 11, Successor)?;
     // A schedule of three steps is no shortest one: to drive at the second step takes two.
     let slower = &["target 3", "schedule 3", "r 1 D", "r 1 O"];
-    is_rejected(&rt, alloc, 3, 4, slower, 13, Reason::Successor)?;
+    is_rejected(&rt, alloc, swap(3, 4, slower), 13, Successor)?;
     let none = &["kind infeasible", "target -", "schedule 0", "marks 0"];
-    is_rejected(&rt, alloc, 2, 7, none, 8, Reason::Successor)
+    is_rejected(&rt, alloc, swap(2, 7, none), 8, Successor)
 }
