@@ -1,8 +1,8 @@
 //! Roots without those that others answer for.
-ghost use Rattle.std.specs.Prelude.{◌≡◌, ◌↔◌, true, IfOk, IsTrue};
+ghost use Rattle.std.specs.Prelude.{◌≡◌, ◌↔◌, IfOk, IsTrue};
 ghost use Rattle.rule_core.specs.Reach.{IsOneOf};
 ghost use Rattle.rule_core.specs.Replay.{AreRootStates, IsCoveredByRoot};
-ghost use Rattle.rule_core.specs.Pruned.{ArePruned, AreApart};
+ghost use Rattle.rule_core.specs.Pruned.{ArePruned, AreApart, AreUncovered};
 
 use crate::book::RuleBook;
 use crate::numbers::Numbers;
@@ -71,8 +71,7 @@ fn uncovered_by_earlier<B: RuleBook>(
     at: Minute,
 ) -> Result<Roots<B::State>, NoMemory>
     requires states { AreRootStates (B.machine book.now) at roots }
-    ensures kept { IfOk result (ArePruned (λ a b. (B.machine book.now).covers a b at ≡ true) roots) }
-    ensures apart { IfOk result (AreApart (λ a b. (B.machine book.now).covers a b at ≡ true)) }
+    ensures { IfOk result (AreUncovered (B.machine book.now) at roots) }
 {
     let Roots { roots } = roots;
     let mut kept = Roots::new(alloc);
@@ -93,8 +92,7 @@ pub(crate) fn uncovered<B: RuleBook>(
     at: Minute,
 ) -> Result<Roots<B::State>, NoMemory>
     requires states { AreRootStates (B.machine book.now) at roots }
-    ensures kept { IfOk result (ArePruned (λ a b. (B.machine book.now).covers a b at ≡ true) roots) }
-    ensures apart { IfOk result (AreApart (λ a b. (B.machine book.now).covers a b at ≡ true)) }
+    ensures { IfOk result (AreUncovered (B.machine book.now) at roots) }
 {
     let Roots { mut roots } = uncovered_by_earlier(alloc, book, roots, at)?;
     roots.reverse();

@@ -1,7 +1,7 @@
 use Rattle.std.proofs.Common.{◌≡◌, true, ap, ◌∙◌}
 use Rattle.std.specs.Prelude.{reverse}
 use Rattle.std.proofs.lemmas.Result.{IfOk-weaker}
-use Rattle.rule_core.specs.Pruned.{ArePruned}
+use Rattle.rule_core.specs.Pruned.{ArePruned, AreUncovered}
 use Rattle.rule_core.proofs.PrunedLaws.{pruned_on, pruned_reversed}
 use Rattle.rule_core.proofs.pruned.uncovered.Given.{Over}
 use Rattle.rule_core.proofs.pruned.uncovered.Goals as goal
@@ -16,12 +16,16 @@ turned g c =
 pub uncovered_by_earlier-requires-2 : goal.uncovered_by_earlier-requires-2
 uncovered_by_earlier-requires-2 g c = record { states = λ root o. c.requires.states root ((turned g (goal.at.uncovered_by_earlier-requires-2 g c).After-reverse).among root o) }
 
-pub returns-clause-kept : goal.returns-clause-kept
-returns-clause-kept g c =
+pub returns : goal.returns
+returns g c =
     let book = c.args.book.now in
-    let covers : g.row.B-State.Denot → g.row.B-State.Denot → Type 0 = λ a b. (g.B.RuleBook.machine book).covers a b c.args.at ≡ true in
-    let first = turned g (goal.at.returns-clause-kept g c).After-reverse in
-    IfOk-weaker c.uncovered_by_earlier-2.result (ArePruned covers c.reverse.new.self.items) (ArePruned covers c.args.roots)
-    (λ kept so. pruned_on covers c.args.roots c.reverse.new.self.items kept
-    (λ x y z o p q. (g.met.B.RuleBook.laws book).lasts.covers_on x.state y.state z.state c.args.at (c.requires.states x o) (c.requires.states y p) (c.requires.states z q)) first so)
-    c.uncovered_by_earlier-2.ensures.kept
+    let m = g.B.RuleBook.machine book in
+    let covers : g.row.B-State.Denot → g.row.B-State.Denot → Type 0 = λ a b. m.covers a b c.args.at ≡ true in
+    let first = turned g (goal.at.returns g c).After-reverse in
+    IfOk-weaker c.uncovered_by_earlier-2.result (AreUncovered m c.args.at c.reverse.new.self.items) (AreUncovered m c.args.at c.args.roots)
+    (λ kept so. record {
+      kept = pruned_on covers c.args.roots c.reverse.new.self.items kept
+          (λ x y z o p q. (g.met.B.RuleBook.laws book).lasts.covers_on x.state y.state z.state c.args.at (c.requires.states x o) (c.requires.states y p) (c.requires.states z q)) first so.kept;
+      apart = so.apart;
+    })
+    c.uncovered_by_earlier-2.ensures

@@ -55,10 +55,13 @@ loop-root-preserved g c =
       states = subst (AreRootStates m c.args.at) (sym e) (states_more m c.args.at c.loop-root.kept c.in-Some.root here before.states);
     }
 
-pub returns-clause-kept : goal.returns-clause-kept
-returns-clause-kept g c =
+pub returns : goal.returns
+returns g c =
     let xs = c.roots.inside.roots.items in
     let i = c.into_iter-root-iterator.ensures.into_iter_gives in
     let t = YieldsList-end (YieldsList-from_vec {s = c.into_iter-root-iterator.result} xs i.0 (omega arith)) c.loop-root.yielded c.loop-root.root-iterator c.loop-root.yielded_by c.next.result c.next.new.self c.in-None.is c.next.ensures.steps in
     let whole : c.loop-root.yielded ≡ xs = sym (map-id c.loop-root.yielded) ∙ t.0 in
-    subst (λ ys. ArePruned (λ a b. (g.B.RuleBook.machine c.args.book.now).covers a b c.args.at ≡ true) ys c.loop-root.kept) (whole ∙ c.roots.view_is) c.loop-root.invariant.kept
+    record {
+      kept = subst (λ ys. ArePruned (λ a b. (g.B.RuleBook.machine c.args.book.now).covers a b c.args.at ≡ true) ys c.loop-root.kept) (whole ∙ c.roots.view_is) c.loop-root.invariant.kept;
+      apart = c.loop-root.invariant.apart;
+    }
