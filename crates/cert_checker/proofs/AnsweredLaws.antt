@@ -1,6 +1,6 @@
 -- Successors put together, answered one by one.
-use Rattle.std.proofs.Common.{◌≡◌, ℕ, ◌+◌, ◌*◌, Bool, true, false, List, [], ◌∷◌, ◌++◌, length, replicate, refl, sym, ◌∙◌, ap, subst, arith, inl, inr, Decides}
-use Rattle.std.specs.Prelude.{Option, None, Some, map, if◌then◌else◌}
+use Rattle.std.proofs.Common.{◌≡◌, ℕ, ◌+◌, ◌*◌, Bool, true, false, List, [], ◌∷◌, ◌++◌, length, replicate, refl, sym, ◌∙◌, ap, subst, inl, inr, Decides}
+use Rattle.std.specs.Prelude.{Option, map, if◌then◌else◌}
 use Rattle.std.specs.Option.{option_to_list}
 use Rattle.duty_core.specs.declared.activity.Activity.{Activity}
 use Rattle.duty_core.specs.declared.activity.Activity.TheVariants.{Drive, Serve}
@@ -20,9 +20,9 @@ use Rattle.cert_text.specs.Problem.{Problem, departed, grow, grown_by, successor
 use Rattle.cert_text.specs.Planning.{minute_of}
 use Rattle.cert_text.specs.Laws.ProblemOf.{minute_more}
 use Rattle.cert_text.specs.Laws.BetterLaws.{grown_from, grown_may, successor_by}
-use Rattle.cert_text.specs.Cover.{IsPruned, IsCovered, IsTooLong}
+use Rattle.cert_text.specs.Cover.{IsPrunedAt, IsPruned, IsCovered}
 use Rattle.cert_checker.proofs.LabelLaws.{not_so}
-use Rattle.cert_checker.specs.Conditions.{AreAnswered, AreCovered, IsPrunedAt, TakesLong}
+use Rattle.cert_checker.specs.Conditions.{AreAnswered, AreCovered}
 
 -- ---- the states of a step, one by one
 
@@ -99,35 +99,6 @@ advanced_states tour unit is_state nexts advances t one next reach s step x n i 
     let e : minute_of tour step + unit * length (replicate each x) ≡ minute_of tour (step + 1) = ap (λ u. minute_of tour step + u * length (replicate each x)) (sym one) ∙ minute_more tour t step x in
     subst (is_state n.state) e (reached_state unit is_state nexts next (replicate each x) s (minute_of tour step) (option_to_list n.mark) n.state i (reach s (minute_of tour step) x each n i o))
 
--- ---- what is pruned
-
-pub long_pruned : {S : Type 0} (problem : Problem S) (target depart : Option ℕ) (step eta : ℕ) (l : Label S) → l.depart ≡ depart → problem.bound step l ≡ Some eta → TakesLong target depart eta → IsTooLong problem target step l
-long_pruned problem (Some t) (Some d) step eta l e f h = record { depart = d; bound = eta; departed = e; ends = f; long = h }
-long_pruned problem (Some t) None step eta l e f h = absurd h
-long_pruned problem None depart step eta l e f h = absurd h
-
-pruned_long : {S : Type 0} (problem : Problem S) (target depart : Option ℕ) (step eta : ℕ) (l : Label S) → l.depart ≡ depart → problem.bound step l ≡ Some eta → IsTooLong problem target step l → TakesLong target depart eta
-pruned_long problem None depart step eta l e f h = absurd h.long
-pruned_long problem (Some t) None step eta l e f h = absurd (let q : None ≡ Some h.depart = sym e ∙ h.departed in cc)
-pruned_long problem (Some t) (Some d) step eta l e f h =
-    let q : Some d ≡ Some h.depart = sym e ∙ h.departed in
-    let r : Some eta ≡ Some h.bound = sym f ∙ h.ends in
-    let i : d ≡ h.depart = cc in
-    let j : eta ≡ h.bound = cc in
-    let le = h.long in omega arith
-
--- whether a label is pruned, by where it ends at the earliest
-pruned_where : {S : Type 0} (problem : Problem S) (target : Option ℕ) (step : ℕ) (l : Label S) (o : Option ℕ) → problem.bound step l ≡ o → IsPrunedAt target l.depart o → IsPruned problem target step l
-pruned_where problem target step l None e h = inl e
-pruned_where problem target step l (Some eta) e h = inr (long_pruned problem target l.depart step eta l refl e h)
-
-where_pruned : {S : Type 0} (problem : Problem S) (target : Option ℕ) (step : ℕ) (l : Label S) (o : Option ℕ) → problem.bound step l ≡ o → IsPruned problem target step l → IsPrunedAt target l.depart o
-where_pruned problem target step l None e h = tt
-where_pruned problem target step l (Some eta) e h = elim h [
-  | inl none ↦ absurd (let q : None ≡ Some eta = sym none ∙ e in cc)
-  | inr too ↦ pruned_long problem target l.depart step eta l refl e too
-]
-
 -- ---- the successors by an activity
 
 in_test : {X : Type 0} (b : Bool) (xs : List X) (x : X) → IsOneOf (if b then xs else []) x → IsOneOf xs x
@@ -146,8 +117,8 @@ pub off_answered : {S : Type 0} (problem : Problem S) (target : Option ℕ) (ste
     (bound : Option ℕ) → ((n : Next S) → problem.bound (step + 1) (grow l step x n).label ≡ bound) → IsPrunedAt target depart bound → AreAnswered problem target (step + 1) layer (grown_by problem step l x)
 off_answered problem target step layer l x depart d bound same h g o =
     let q = in_grown problem step l x g o in
-    let m = (grow l step x q.0).label in
-    inl (subst (λ k. IsPruned problem target (step + 1) k.label) q.2 (pruned_where problem target (step + 1) m bound (same q.0) (subst (λ k. IsPrunedAt target k bound) d h)))
+    inl (subst (λ k. IsPruned problem target (step + 1) k.label) q.2
+    (subst (IsPrunedAt target (departed l.depart x step)) (sym (same q.0)) (subst (λ k. IsPrunedAt target k bound) d h)))
 
 -- where they are not
 pub covered_answered : {S : Type 0} (problem : Problem S) (target : Option ℕ) (step : ℕ) (layer : List (Label S)) (l : Label S) (x : Activity) (depart : Option ℕ) (progress : ℕ) (ns : List (Next S)) (b : Bool) → depart ≡ departed l.depart x step → progress ≡ done l.progress x →
@@ -162,7 +133,7 @@ covered_answered problem target step layer l x depart progress ns b d p may e bo
       let g = grow l step x n in
       let o : IsOneOf (grown_by problem step l x) g = subst (λ gs. IsOneOf gs g) (by_nexts problem step l x ns may e) (one_of_map (grow l step x) ns n i) in
       elim (h g o) [
-        | inl off ↦ absurd (not_off (subst (λ k. IsPrunedAt target k bound) (sym d) (where_pruned problem target (step + 1) g.label bound (same n) off)))
+        | inl off ↦ absurd (not_off (subst (λ k. IsPrunedAt target k bound) (sym d) (subst (IsPrunedAt target (departed l.depart x step)) (same n) off)))
         | inr covered ↦ subst (λ k. IsCovered problem (step + 1) layer k) (sym (label_grown step l x n depart progress d p)) covered
       ]
       ))),

@@ -1,5 +1,5 @@
 -- The conditions on the labels of a certificate, in their order.
-use Rattle.std.specs.Prelude.{◌≡◌, ℕ, ◌+◌, ◌-◌, ◌<◌, ◌≤◌, List, Option, None, Some, ◌⊎◌, take, length, slice_index_or, sum_by}
+use Rattle.std.specs.Prelude.{◌≡◌, ℕ, ◌+◌, ◌<◌, List, Option, None, Some, ◌⊎◌, take, length, slice_index_or, sum_by}
 use Rattle.rule_core.specs.declared.nexts.Next.{Next}
 use Rattle.rule_core.specs.Reach.{IsOneOf}
 use Rattle.tour_model.specs.declared.label.Label.{Label}
@@ -15,17 +15,6 @@ use Rattle.cert_checker.specs.declared.verdict.Reason.TheVariants as reason
 use Rattle.cert_checker.specs.declared.layer.LabelFault.{LabelFault}
 use Rattle.cert_checker.specs.declared.verdict.Rejection.{Rejection}
 use Rattle.cert_checker.specs.Parsed.{labels_of, there}
-
--- From this departure to this end it takes at least the target. Where there is no departure or no target, it does not.
-abbrev pub TakesLong : Option ℕ → Option ℕ → ℕ → Type 0
-TakesLong None depart eta = ⊥
-TakesLong (Some target) None eta = ⊥
-TakesLong (Some target) (Some depart) eta = target ≤ (eta - depart)
-
--- A label of this departure that ends there at the earliest is pruned; so is one that ends nowhere.
-abbrev pub IsPrunedAt : Option ℕ → Option ℕ → Option ℕ → Type 0
-IsPrunedAt target depart None = Unit {0}
-IsPrunedAt target depart (Some eta) = TakesLong target depart eta
 
 -- For each of these states, a label of the layer is better than one of this departure and progress in it.
 abbrev pub AreCovered : {S : Type 0} → Problem S → ℕ → List (Label S) → Option ℕ → ℕ → List (Next S) → Type 0

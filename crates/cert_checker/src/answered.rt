@@ -1,10 +1,9 @@
 //! Whether the successors of a label are pruned or answered.
-ghost use Rattle.std.specs.Prelude.{◌≡◌, ◌+◌, ◌<◌, ◌≤◌, Decides, IfOk};
+ghost use Rattle.std.specs.Prelude.{◌≡◌, ◌+◌, ◌<◌, Decides, IfOk};
 ghost use Rattle.std.specs.Option.{option_to_list};
 ghost use Rattle.rule_core.specs.Reach.{listed, IsOneOf};
 ghost use Rattle.rule_core.specs.declared.nexts.Next.{Next};
 ghost use Rattle.tour_model.specs.declared.limits.TheConstants.{STEP_LIMIT};
-ghost use Rattle.tour_model.specs.Eta.{eta_of};
 ghost use Rattle.tour_model.specs.Tour.{IsTour};
 ghost use Rattle.tour_model.specs.Way.{done};
 ghost use Rattle.tour_model.specs.Word.{word_length};
@@ -12,47 +11,16 @@ ghost use Rattle.cert_text.specs.Problem.{departed, grown_by, successors_of};
 ghost use Rattle.cert_text.specs.Planning.{problem_of, state_at};
 ghost use Rattle.cert_checker.specs.Parsed.{there};
 ghost use Rattle.cert_checker.specs.Terms.{AreStatesAt, HasNext};
-ghost use Rattle.cert_checker.specs.Conditions.{AreAnswered, AreCovered, IsPrunedAt, TakesLong};
+ghost use Rattle.cert_checker.specs.Conditions.{AreAnswered, AreCovered};
 
 use crate::asked::Asked;
 use crate::covered::is_covered;
 use crate::listing::Listing;
 use crate::terms::Terms;
-use cert_text::minute_at;
+use cert_text::{is_pruned, minute_at};
 use duty_core::{Activity, NoMemory, unit_of};
 use rule_core::{Idles, Next, Nexts, RuleBook};
-use tour_model::{Label, Tour, progresses};
-
-/// Whether a label that has departed then cannot end within less than the target, where it ends at
-/// `eta` at the earliest. Where there is no target, no label is such.
-fn is_too_long(target: Option<u32>, depart: Option<u32>, eta: u32) -> bool
-    ensures { Decides result (TakesLong target depart eta) }
-{
-    match (target, depart) {
-        (Some(target), Some(depart)) => target <= eta.saturating_sub(depart),
-        _ => false,
-    }
-}
-
-/// Whether a label of this departure and progress is pruned at this step: its windows can no longer
-/// be met, or it cannot beat the target.
-fn is_pruned(
-    tour: &Tour,
-    target: Option<u32>,
-    step: u32,
-    depart: Option<u32>,
-    progress: u32,
-) -> bool
-    requires tour { IsTour tour.now }
-    requires progress { progress ≤ word_length tour.now }
-    requires step { step < STEP_LIMIT }
-    ensures { Decides result (IsPrunedAt target depart (eta_of tour.now step progress)) }
-{
-    match tour.eta(step, progress) {
-        None => true,
-        Some(eta) => is_too_long(target, depart, eta),
-    }
-}
+use tour_model::{Label, progresses};
 
 /// The departure after this step of an activity.
 fn departure(depart: Option<u32>, act: Activity, step: u32) -> Option<u32>
@@ -149,7 +117,7 @@ fn are_answered_by<B: RuleBook>(
     }
     let depart = departure(label.depart, act, step);
     let progress = progress_after(label.progress, act);
-    if is_pruned(terms.tour, terms.target, step + 1, depart, progress) {
+    if is_pruned(terms.target, depart, terms.tour.eta(step + 1, progress)) {
         return Ok(true);
     }
     let units = terms.tour.grid / unit_of(terms.tour.params);

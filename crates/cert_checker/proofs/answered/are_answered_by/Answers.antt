@@ -23,8 +23,8 @@ nexts_of g c =
 pub progress_after-progress-requires : goal.progress_after-progress-requires
 progress_after-progress-requires g c = let few = word_few c.args.terms.now.tour.now c.requires.next.by.tour in let within = c.requires.progress in let whole = c.requires.next.by.goal in omega arith
 
-pub is_pruned-requires-clause-progress : goal.is_pruned-requires-clause-progress
-is_pruned-requires-clause-progress g c =
+pub eta-requires-clause-progress : goal.eta-requires-clause-progress
+eta-requires-clause-progress g c =
     let unfinished = c.requires.progress in
     let whole = c.requires.next.by.goal in
     let within = done_within (word_length c.args.terms.now.tour.now) c.args.label.now.progress c.args.act (omega arith) in
@@ -33,7 +33,7 @@ is_pruned-requires-clause-progress g c =
 pub returns-then-is_pruned : goal.returns-then-is_pruned
 returns-then-is_pruned g c =
     let problem = problem_of c.args.terms.now.tour.now (g.B.RuleBook.machine c.args.terms.now.book.now) in (
-      (λ _. off_answered problem c.args.terms.now.target c.args.step (there c.args.labels.now) c.args.label.now c.args.act c.departure-depart.result c.departure-depart.ensures (eta_of c.args.terms.now.tour.now (c.args.step + 1) c.progress_after-progress.result) (λ n. ap (eta_of c.args.terms.now.tour.now (c.args.step + 1)) (sym c.progress_after-progress.ensures)) (c.is_pruned.ensures.0 c.if-is_pruned.true)),
+      (λ _. off_answered problem c.args.terms.now.target c.args.step (there c.args.labels.now) c.args.label.now c.args.act c.departure-depart.result c.departure-depart.ensures c.eta.result (λ n. ap (eta_of c.args.terms.now.tour.now (c.args.step + 1)) (sym c.progress_after-progress.ensures) ∙ sym c.eta.ensures.value) (c.is_pruned.ensures.0 c.if-is_pruned.true)),
       (λ _. refl),
     )
 
@@ -49,4 +49,4 @@ returns g c =
     let problem = problem_of c.args.terms.now.tour.now (g.B.RuleBook.machine c.args.terms.now.book.now) in
     let may : problem.may c.args.step c.args.label.now.progress c.args.act ≡ true = sym c.may_do.ensures ∙ c.if-not-may_do.false in
     covered_answered problem c.args.terms.now.target c.args.step (there c.args.labels.now) c.args.label.now c.args.act c.departure-depart.result c.progress_after-progress.result (listed c.in_ok-nexts.nexts) c.are_nexts_covered.result c.departure-depart.ensures c.progress_after-progress.ensures may
-    (nexts_of g (goal.at.returns g c).In_ok-nexts) (eta_of c.args.terms.now.tour.now (c.args.step + 1) c.progress_after-progress.result) (λ n. ap (eta_of c.args.terms.now.tour.now (c.args.step + 1)) (sym c.progress_after-progress.ensures)) (not_so c.is_pruned.result c.is_pruned.ensures c.if-is_pruned.false) c.are_nexts_covered.ensures
+    (nexts_of g (goal.at.returns g c).In_ok-nexts) c.eta.result (λ n. ap (eta_of c.args.terms.now.tour.now (c.args.step + 1)) (sym c.progress_after-progress.ensures) ∙ sym c.eta.ensures.value) (not_so c.is_pruned.result c.is_pruned.ensures c.if-is_pruned.false) c.are_nexts_covered.ensures
