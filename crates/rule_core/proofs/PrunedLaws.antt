@@ -126,11 +126,11 @@ pruned_reversed answers roots kept turned is so = record {
   few = let few = so.few in omega (arith, ap length is, length-reverse kept);
 }
 
--- of some roots some are kept
-some_one : {X : Type 0} (xs : List X) (x : X) → IsOneOf xs x → 0 < length xs
+pub some_one : {X : Type 0} (xs : List X) (x : X) → IsOneOf xs x → 0 < length xs
 some_one [] x o = absurd o
 some_one (y ∷ xs) x o = omega arith
 
+-- of some roots some are kept
 pub some_pruned : {S : Type 0} (answers : S → S → Type 0) (roots kept : List (Root S)) → ArePruned answers roots kept → 0 < length roots → 0 < length kept
 some_pruned answers [] kept so some = absurd (omega arith)
 some_pruned answers (root ∷ roots) kept so some = (let p = so.all root (inl refl) in some_one kept p.0 p.1)

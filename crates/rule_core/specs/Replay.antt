@@ -1,9 +1,11 @@
 -- What it means to go over a log: the roots that it leaves, or the unit at which it breaks a rule.
-use Rattle.std.specs.Prelude.{◌≡◌, ℕ, ◌+◌, ◌*◌, ◌^◌, ◌<◌, Bool, true, List, ◌++◌, length, take, map, flat_map}
+use Rattle.std.specs.Prelude.{◌≡◌, ℕ, ◌+◌, ◌*◌, ◌^◌, ◌<◌, ◌≤◌, Bool, true, List, ◌++◌, length, take, map, flat_map}
 use Rattle.std.specs.Option.{option_to_list}
 use Rattle.duty_core.specs.declared.activity.Activity.{Activity}
 use Rattle.duty_core.specs.declared.mark.Mark.{Mark}
 use Rattle.duty_core.specs.declared.params.Params.{Params}
+use Rattle.duty_core.specs.declared.limits.TheConstants.{LONGEST_HISTORY, MINUTE_LIMIT}
+use Rattle.duty_core.specs.Params.{unit_minutes}
 use Rattle.duty_core.specs.Lawful.{IsLawful}
 use Rattle.rule_core.specs.declared.nexts.Next.{Next}
 use Rattle.rule_core.specs.declared.roots.Root.{Root}
@@ -16,13 +18,30 @@ use Rattle.rule_core.specs.Machine.{Machine, LeadsTo}
 abbrev pub root_by : {S : Type 0} → List Mark → Next S → Root S
 root_by marks next = record { state = next.state; marks = marks ++ option_to_list next.mark }
 
--- the roots that one more unit makes of each root
-abbrev pub roots_by : {S : Type 0} → (S → ℕ → Activity → List (Next S)) → ℕ → Activity → List (Root S) → List (Root S)
-roots_by nexts at act roots = flat_map (λ root. map (root_by root.marks) (nexts root.state at act)) roots
+-- the roots that so many equal units, the first of which begins at this minute, make of each root
+abbrev pub roots_over : {S : Type 0} → Machine S → ℕ → Activity → ℕ → List (Root S) → List (Root S)
+roots_over m at act n roots = flat_map (λ root. map (root_by root.marks) (m.advances root.state at act n)) roots
 
 -- Each root has a state of this minute.
 abbrev pub AreRootStates : {S : Type 0} → Machine S → ℕ → List (Root S) → Type 0
 AreRootStates {S} m at roots = (root : Root S) → IsOneOf roots root → m.is_state root.state at
+
+-- A book may be asked what so many equal units make of these roots, whose states are of this minute.
+pub record MayAdvance {S : Type 0} (m : Machine S) (at n : ℕ) (roots : List (Root S)) : Type 0 where
+  pub states : AreRootStates m at roots
+  pub some : 1 ≤ n
+  pub long : n ≤ LONGEST_HISTORY
+  pub range : at + unit_minutes m.params * n < MINUTE_LIMIT
+
+-- Some root has a state after so many equal units, the first of which begins at this minute.
+abbrev pub GoesOn : {S : Type 0} → Machine S → ℕ → Activity → ℕ → List (Root S) → Type 0
+GoesOn {S} m at act n roots = (root : Root S) × IsOneOf roots root × (next : Next S) × IsOneOf (m.advances root.state at act n) next
+
+-- Of so many equal units this one, counted from 0, is the first over which no root goes on.
+pub record IsFirstRefused {S : Type 0} (m : Machine S) (at : ℕ) (act : Activity) (n : ℕ) (roots : List (Root S)) (unit : ℕ) : Type 0 where
+  pub inside : unit < n
+  pub refused : GoesOn m at act (unit + 1) roots → ⊥
+  pub before : 0 < unit → GoesOn m at act unit roots
 
 -- Some root has a state that may stand for this one.
 abbrev pub IsCoveredByRoot : {S : Type 0} → (S → S → Bool) → List (Root S) → S → Type 0

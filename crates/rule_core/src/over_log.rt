@@ -1,12 +1,11 @@
 //! Going over a log of what a driver has done.
-ghost use Rattle.std.specs.Prelude.{◌≡◌, ◌+◌, ◌<◌, ◌++◌, [], ◌∷◌, map, IfOk, OnOk};
+ghost use Rattle.std.specs.Prelude.{◌≡◌, ◌↔◌, ◌++◌, [], ◌∷◌, map, IfOk, OnOk, IsTrue};
 ghost use Rattle.std.specs.Option.{option_to_list};
 ghost use Rattle.duty_core.specs.Params.{unit_minutes};
-ghost use Rattle.duty_core.specs.declared.limits.TheConstants.{MINUTE_LIMIT};
 ghost use Rattle.duty_core.specs.History.{IsTimed};
 ghost use Rattle.duty_core.specs.Lawful.{IsLawful};
 ghost use Rattle.rule_core.specs.Reach.{listed};
-ghost use Rattle.rule_core.specs.Replay.{root_by, roots_by, AreRootStates, AreRootsOf, IsFirstUnlawful, IfLawful, IfUnlawful};
+ghost use Rattle.rule_core.specs.Replay.{root_by, roots_over, MayAdvance, GoesOn, IsFirstRefused, AreRootsOf, IsFirstUnlawful, IfLawful, IfUnlawful};
 ghost use Rattle.rule_core.specs.Pruned.{ArePruned};
 
 use crate::book::RuleBook;
@@ -61,47 +60,94 @@ fn push_nexts<S: Drop>(roots: &mut Roots<S>, marks: Marks, nexts: Nexts<S>) -> R
     push_next(roots, marks, c)
 }
 
-/// What one more unit, which begins at `at`, makes of the roots.
+/// What `n` equal units, the first of which begins at `at`, make of the roots.
 fn roots_after<B: RuleBook>(
     alloc: Global,
     book: &B,
     roots: Roots<B::State>,
     at: Minute,
     act: Activity,
+    n: u32,
 ) -> Result<Roots<B::State>, NoMemory>
-    requires states { AreRootStates (B.machine book.now) at roots }
-    requires range { at + unit_minutes (B.machine book.now).params < MINUTE_LIMIT }
-    ensures { IfOk result (λ after. after ≡ roots_by (B.machine book.now).nexts at act roots) }
+    requires { MayAdvance (B.machine book.now) at n roots }
+    ensures { IfOk result (λ after. after ≡ roots_over (B.machine book.now) at act n roots) }
 {
     let Roots { roots } = roots;
     let mut after = Roots::new(alloc);
     for root in roots {
         let Root { state, marks } = root;
-        let nexts = book.step(&state, at, act)?;
+        let nexts = book.advance(&state, at, act, n)?;
         push_nexts(&mut after, marks, nexts)?;
     }
     Ok(after)
 }
 
-/// What one more unit, which begins at `at`, makes of the roots; of equal states one, where it makes
-/// more roots than there were.
+/// What `n` equal units, the first of which begins at `at`, make of the roots; of equal states one,
+/// where they make more roots than there were.
 fn roots_on<B: RuleBook>(
     alloc: Global,
     book: &B,
     roots: Roots<B::State>,
     at: Minute,
     act: Activity,
+    n: u32,
 ) -> Result<Roots<B::State>, NoMemory>
-    requires states { AreRootStates (B.machine book.now) at roots }
-    requires range { at + unit_minutes (B.machine book.now).params < MINUTE_LIMIT }
-    ensures { IfOk result (λ kept. ArePruned (λ a b. a ≡ b) (roots_by (B.machine book.now).nexts at act roots) kept) }
+    requires { MayAdvance (B.machine book.now) at n roots }
+    ensures { IfOk result (λ kept. ArePruned (λ a b. a ≡ b) (roots_over (B.machine book.now) at act n roots) kept) }
 {
     let before = roots.len();
-    let after = roots_after(alloc, book, roots, at, act)?;
+    let after = roots_after(alloc, book, roots, at, act, n)?;
     if after.len() <= before {
         return Ok(after);
     }
-    distinct(alloc, book, after, at + unit_of(book.params()))
+    distinct(alloc, book, after, at + unit_of(book.params()) * n)
+}
+
+/// Whether some root goes on over `n` equal units, the first of which begins at `at`.
+fn goes_on<B: RuleBook>(
+    book: &B,
+    roots: &[Root<B::State>],
+    at: Minute,
+    act: Activity,
+    n: u32,
+) -> Result<bool, NoMemory>
+    requires { MayAdvance (B.machine book.now) at n roots.now }
+    ensures { IfOk result (λ goes. IsTrue goes ↔ GoesOn (B.machine book.now) at act n roots.now) }
+{
+    for root in roots {
+        let nexts = book.advance(&root.state, at, act, n)?;
+        if !nexts.is_empty() {
+            return Ok(true);
+        }
+    }
+    Ok(false)
+}
+
+/// Of `n` equal units, over which no root goes on, the first over which none does, counted from 0.
+///
+/// What goes on over units goes on over fewer, so the unit is found by halving.
+fn first_refused<B: RuleBook>(
+    book: &B,
+    roots: &[Root<B::State>],
+    at: Minute,
+    act: Activity,
+    n: u32,
+) -> Result<u32, NoMemory>
+    requires can { MayAdvance (B.machine book.now) at n roots.now }
+    requires refused { GoesOn (B.machine book.now) at act n roots.now → ⊥ }
+    ensures { IfOk result (IsFirstRefused (B.machine book.now) at act n roots.now) }
+{
+    let mut kept = 0;
+    let mut refused = n;
+    while kept + 1 < refused {
+        let middle = kept + (refused - kept) / 2;
+        if goes_on(book, roots, at, act, middle)? {
+            kept = middle;
+        } else {
+            refused = middle;
+        }
+    }
+    Ok(kept)
 }
 
 /// The root of the empty log that begins at `first`.
@@ -142,11 +188,15 @@ pub fn replay<B: RuleBook>(
     // Before the log's end no root is left out for one that covers it: that one answers only for what
     // a schedule may hold, and a log may hold more.
     let mut roots = first_roots(alloc, book, first)?;
-    for unit in 0..log.len() {
-        roots = roots_on(alloc, book, roots, first + minutes * unit, log.at(unit))?;
-        if roots.is_empty() {
+    let runs = log.runs();
+    for run in runs {
+        let at = first + minutes * run.from;
+        let n = run.to - run.from;
+        if !goes_on(book, roots.items(), at, run.act, n)? {
+            let unit = run.from + first_refused(book, roots.items(), at, run.act, n)?;
             return Ok(Replayed::Unlawful { unit });
         }
+        roots = roots_on(alloc, book, roots, at, run.act, n)?;
         if roots.len() >= ROOT_LIMIT {
             return Err(NoMemory);
         }

@@ -1,5 +1,6 @@
-use Rattle.rule_core.proofs.ReplayLaws.{IsReplaying}
+use Rattle.rule_core.proofs.ReplayLaws.{IsReplaying, place}
 use Rattle.rule_core.proofs.over_log.replay.Given as goal
 
-abbrev pub invariant-loop-unit : goal.invariant-loop-unit
-invariant-loop-unit g l = IsReplaying (g.B.RuleBook.machine l.book).params (g.B.RuleBook.machine l.book) l.first l.log l.unit l.roots
+-- the roots of the log up to the runs that are gone over
+abbrev pub invariant-loop-run : goal.invariant-loop-run
+invariant-loop-run g l = IsReplaying (g.B.RuleBook.machine l.book).params (g.B.RuleBook.machine l.book) l.first l.log (place l.runs l.run-index) l.roots

@@ -4,13 +4,13 @@ use Rattle.std.proofs.lemmas.Iterator.Adapters.{YieldsList-from_vec}
 use Rattle.std.proofs.lemmas.Iterator.Consumers.{YieldsList-turn, YieldsList-end}
 use Rattle.rule_core.specs.Laws.OneOf.{one_of_item}
 use Rattle.rule_core.specs.Reach.{IsOneOf}
-use Rattle.rule_core.specs.Replay.{roots_by}
+use Rattle.rule_core.specs.Replay.{roots_over}
 use Rattle.rule_core.proofs.ReplayLaws.{roots_more}
 use Rattle.rule_core.proofs.over_log.roots_after.Goals as goal
 
 -- this iteration's root is one of those given
-pub step-requires-clause-state : goal.step-requires-clause-state
-step-requires-clause-state g c =
+pub advance-requires-clause-state : goal.advance-requires-clause-state
+advance-requires-clause-state g c =
     let xs = c.roots.inside.roots.items in
     let i = c.into_iter-root-iterator.ensures.into_iter_gives in
     let t = YieldsList-turn (YieldsList-from_vec {s = c.into_iter-root-iterator.result} xs i.0 (omega arith)) c.loop-root.yielded c.loop-root.root-iterator c.loop-root.yielded_by c.next.result c.next.new.self c.in-Some.root c.in-Some.is c.next.ensures.steps in
@@ -20,7 +20,7 @@ pub loop-root-preserved : goal.loop-root-preserved
 loop-root-preserved g c = record {
   can = tt;
   finite = tt;
-  grown = roots_more (g.B.RuleBook.machine c.args.book.now).nexts c.args.at c.args.act c.loop-root.yielded c.loop-root.after c.push_nexts.new.roots c.in-Some.root _
+  grown = roots_more (g.B.RuleBook.machine c.args.book.now) c.args.at c.args.act c.args.n c.loop-root.yielded c.loop-root.after c.push_nexts.new.roots c.in-Some.root _
       c.loop-root.invariant.grown c.in_ok-nexts.ensures.nexts c.in_ok-push_nexts.ensures.ok;
 }
 
@@ -30,5 +30,5 @@ returns g c =
     let i = c.into_iter-root-iterator.ensures.into_iter_gives in
     let t = YieldsList-end (YieldsList-from_vec {s = c.into_iter-root-iterator.result} xs i.0 (omega arith)) c.loop-root.yielded c.loop-root.root-iterator c.loop-root.yielded_by c.next.result c.next.new.self c.in-None.is c.next.ensures.steps in
     let whole : c.loop-root.yielded ≡ xs = sym (map-id c.loop-root.yielded) ∙ t.0 in
-    subst (λ ys. c.loop-root.after ≡ roots_by (g.B.RuleBook.machine c.args.book.now).nexts c.args.at c.args.act ys) c.roots.view_is
-    (subst (λ ys. c.loop-root.after ≡ roots_by (g.B.RuleBook.machine c.args.book.now).nexts c.args.at c.args.act ys) whole c.loop-root.invariant.grown)
+    subst (λ ys. c.loop-root.after ≡ roots_over (g.B.RuleBook.machine c.args.book.now) c.args.at c.args.act c.args.n ys) c.roots.view_is
+    (subst (λ ys. c.loop-root.after ≡ roots_over (g.B.RuleBook.machine c.args.book.now) c.args.at c.args.act c.args.n ys) whole c.loop-root.invariant.grown)

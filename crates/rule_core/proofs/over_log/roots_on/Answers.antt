@@ -1,4 +1,4 @@
-use Rattle.std.proofs.Common.{◌≡◌, ◌+◌, sym, ◌∙◌, ap, subst, refl, IfOk}
+use Rattle.std.proofs.Common.{◌≡◌, ◌+◌, ◌*◌, sym, ◌∙◌, ap, subst, refl, IfOk}
 use Rattle.duty_core.specs.Params.{unit_minutes}
 use Rattle.rule_core.specs.Replay.{AreRootStates}
 use Rattle.rule_core.specs.Pruned.{ArePruned}
@@ -14,8 +14,8 @@ distinct-requires g c =
     let m = g.B.RuleBook.machine c.args.book.now in
     let minutes : unit_minutes m.params ≡ c.unit_of.result = sym (c.unit_of.ensures ∙ ap unit_minutes c.params.ensures) in
     record {
-      states = subst (λ n. AreRootStates m (c.args.at + n) c.in_ok-after.after) minutes (subst (AreRootStates m (c.args.at + unit_minutes m.params)) (sym c.in_ok-after.ensures)
-          (states_after m.params m c.args.at c.args.act c.args.roots (g.met.B.RuleBook.laws c.args.book.now).lasts c.requires.states));
+      states = subst (λ u. AreRootStates m (c.args.at + u * c.args.n) c.in_ok-after.after) minutes (subst (AreRootStates m (c.args.at + unit_minutes m.params * c.args.n)) (sym c.in_ok-after.ensures)
+          (states_after m.params m c.args.at c.args.act c.args.n c.args.roots (g.met.B.RuleBook.laws c.args.book.now) c.requires.states));
     }
 
 pub returns : goal.returns
