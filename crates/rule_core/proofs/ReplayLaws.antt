@@ -2,7 +2,6 @@
 use Rattle.std.proofs.Common.{◌≡◌, ℕ, ◌+◌, ◌*◌, ◌-◌, ◌<◌, ◌≤◌, true, List, [], ◌∷◌, ◌++◌, length, take, drop, get_or, refl, sym, ◌∙◌, ap, subst, arith, append-nil, append_assoc, inl, inr, zero, suc, length-append}
 use Rattle.std.specs.Prelude.{map, replicate}
 use Rattle.std.specs.Option.{option_to_list}
-use Rattle.std.proofs.lemmas.Bool.{cases_lt}
 use Rattle.std.proofs.lemmas.List.{take_more, take_all, take-take, take-append-drop, replicate_more, length-replicate, length-take-le, flat_map_more}
 use Rattle.std.proofs.Math.Nat.{mul-le-mul_left}
 use Rattle.duty_core.specs.declared.activity.Activity.{Activity}
