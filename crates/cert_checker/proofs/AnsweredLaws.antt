@@ -15,12 +15,12 @@ use Rattle.tour_model.specs.declared.tour.Tour.{Tour}
 use Rattle.tour_model.specs.Tour.{IsTour}
 use Rattle.tour_model.specs.Schedule.{step_units}
 use Rattle.tour_model.specs.Way.{done}
-use Rattle.cert_text.specs.declared.grown.Grown.{Grown}
-use Rattle.cert_text.specs.Problem.{Problem, departed, grow, grown_by, successors_of}
-use Rattle.cert_text.specs.Planning.{minute_of}
-use Rattle.cert_text.specs.Laws.ProblemOf.{minute_more}
-use Rattle.cert_text.specs.Laws.BetterLaws.{grown_from, grown_may, successor_by}
-use Rattle.cert_text.specs.Cover.{IsPrunedAt, IsPruned, IsCovered}
+use Rattle.cert_text.specs.declared.cover_lists.grown.Grown.{Grown}
+use Rattle.cert_text.specs.CoverLists.Problem.{Problem, departed, grow, grown_by, successors_of}
+use Rattle.cert_text.specs.CoverLists.Planning.{minute_of}
+use Rattle.cert_text.specs.CoverLists.Laws.ProblemOf.{minute_more}
+use Rattle.cert_text.specs.CoverLists.Laws.BetterLaws.{grown_from, grown_may, successor_by}
+use Rattle.cert_text.specs.CoverLists.Cover.{IsPrunedAt, IsPruned, IsCovered}
 use Rattle.cert_checker.proofs.LabelLaws.{not_so}
 use Rattle.cert_checker.specs.Conditions.{AreAnswered, AreCovered}
 

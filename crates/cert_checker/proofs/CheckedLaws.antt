@@ -16,13 +16,13 @@ use Rattle.cert_text.specs.declared.cert.Cert.{Cert}
 use Rattle.cert_text.specs.declared.cert.CertKind.{CertKind}
 use Rattle.cert_text.specs.declared.cert.CertKind.TheVariants.{Shortest, Infeasible}
 use Rattle.cert_text.specs.declared.cert.CertLabel.{CertLabel}
-use Rattle.cert_text.specs.declared.fault.CertFault.{CertFault}
-use Rattle.cert_text.specs.declared.fault.CertFault.TheVariants as fault
-use Rattle.cert_text.specs.Planning.{problem_of, state_at}
-use Rattle.cert_text.specs.Problem.{Problem}
-use Rattle.cert_text.specs.Form.{IsCertForm, IsClaimForm, IsLayerForm}
-use Rattle.cert_text.specs.Spelling.{IsCertText}
-use Rattle.cert_text.specs.BadLine.{IsFault}
+use Rattle.cert_text.specs.declared.text.fault.CertFault.{CertFault}
+use Rattle.cert_text.specs.declared.text.fault.CertFault.TheVariants as fault
+use Rattle.cert_text.specs.CoverLists.Planning.{problem_of, state_at}
+use Rattle.cert_text.specs.CoverLists.Problem.{Problem}
+use Rattle.cert_text.specs.Text.Form.{IsCertForm, IsClaimForm, IsLayerForm}
+use Rattle.cert_text.specs.Text.Spelling.{IsCertText}
+use Rattle.cert_text.specs.Text.BadLine.{IsFault}
 use Rattle.cert_checker.specs.declared.verdict.Reason.{Reason}
 use Rattle.cert_checker.specs.declared.verdict.Reason.TheVariants as reason
 use Rattle.cert_checker.specs.declared.verdict.Verdict.{Verdict}

@@ -10,11 +10,11 @@ use Rattle.rule_core.specs.Laws.OneOf.{one_of-append, one_of-append_left, one_of
 use Rattle.tour_model.specs.declared.label.Label.{Label}
 use Rattle.tour_model.specs.Layer.{layer_at}
 use Rattle.cert_text.specs.declared.cert.CertLabel.{CertLabel}
-use Rattle.cert_text.specs.Problem.{Problem}
-use Rattle.cert_text.specs.Cover.{IsLabelAt, IsCovered, NoneCovers}
+use Rattle.cert_text.specs.CoverLists.Problem.{Problem}
+use Rattle.cert_text.specs.CoverLists.Cover.{IsLabelAt, IsCovered, NoneCovers}
 use Rattle.tour_model.specs.declared.tour.Tour.{Tour}
 use Rattle.tour_model.specs.Word.{word_length}
-use Rattle.cert_text.specs.Planning.{minute_of}
+use Rattle.cert_text.specs.CoverLists.Planning.{minute_of}
 use Rattle.cert_checker.specs.declared.layer.LabelFault.{LabelFault}
 use Rattle.cert_checker.specs.declared.verdict.Rejection.{Rejection}
 use Rattle.cert_checker.specs.Parsed.{there, label_of, labels_of, AreStatesIn, HasLeft}

@@ -8,8 +8,8 @@ use Rattle.rule_core.specs.Reach.{IsOneOf}
 use Rattle.rule_core.specs.Laws.OneOf.{one_of-append, one_of-map, one_of-flat_map, one_of_item, one_of_flat_map}
 use Rattle.tour_model.specs.declared.label.Label.{Label}
 use Rattle.cert_text.specs.declared.cert.CertLabel.{CertLabel}
-use Rattle.cert_text.specs.Problem.{Problem, is_better}
-use Rattle.cert_text.specs.Cover.{IsCovered, NoneCovers}
+use Rattle.cert_text.specs.CoverLists.Problem.{Problem, is_better}
+use Rattle.cert_text.specs.CoverLists.Cover.{IsCovered, NoneCovers}
 use Rattle.cert_checker.specs.Parsed.{label_with, label_of, labels_of, there, AreStatesIn, AreWithin}
 
 -- what holds of a value that was made, by what is known of it

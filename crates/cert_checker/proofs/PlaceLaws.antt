@@ -10,8 +10,8 @@ use Rattle.std.proofs.lemmas.List.{take_more, take_all, length-map, length-set, 
 use Rattle.rule_core.specs.Reach.{IsOneOf}
 use Rattle.rule_core.specs.Laws.OneOf.{one_of-append, one_of-append_left, one_of-append_right, one_of-flat_map, one_of_flat_map, one_of-get_or}
 use Rattle.tour_model.specs.declared.label.Label.{Label}
-use Rattle.cert_text.specs.Problem.{Problem, is_better, later}
-use Rattle.cert_text.specs.Cover.{IsCovered, NoneCovers}
+use Rattle.cert_text.specs.CoverLists.Problem.{Problem, is_better, later}
+use Rattle.cert_text.specs.CoverLists.Cover.{IsCovered, NoneCovers}
 use Rattle.cert_checker.specs.Parsed.{there, AreStatesIn}
 use Rattle.cert_checker.specs.Places.{plain, label_at, labels_at, with_place, ArePlaced, ArePlacedUpTo, HasPlaces}
 use Rattle.cert_checker.proofs.ParsedLaws.{in_option, option_in, none_covered}

@@ -16,11 +16,11 @@ use Rattle.tour_model.specs.Schedule.{duration, log_start}
 use Rattle.cert_text.specs.declared.cert.Cert.{Cert}
 use Rattle.cert_text.specs.declared.cert.CertKind.{CertKind}
 use Rattle.cert_text.specs.declared.cert.CertKind.TheVariants.{Shortest, Infeasible}
-use Rattle.cert_text.specs.Problem.{Problem, root_label, is_better}
-use Rattle.cert_text.specs.Planning.{problem_of, state_at, minute_of, IsLogState}
-use Rattle.cert_text.specs.Laws.ProblemOf.{problem_laws}
-use Rattle.cert_text.specs.Laws.BetterLaws.{better_from, better_on}
-use Rattle.cert_text.specs.Laws.SolutionLaws.{log_ends, log_state, valid_shortest, valid_infeasible}
+use Rattle.cert_text.specs.CoverLists.Problem.{Problem, root_label, is_better}
+use Rattle.cert_text.specs.CoverLists.Planning.{problem_of, state_at, minute_of, IsLogState}
+use Rattle.cert_text.specs.CoverLists.Laws.ProblemOf.{problem_laws}
+use Rattle.cert_text.specs.CoverLists.Laws.BetterLaws.{better_from, better_on}
+use Rattle.cert_text.specs.CoverLists.Laws.SolutionLaws.{log_ends, log_state, valid_shortest, valid_infeasible}
 use Rattle.cert_text.specs.Cert.{acts_of_runs, IsClaim, IsValidCert}
 use Rattle.cert_checker.specs.declared.verdict.Reason.{Reason}
 use Rattle.cert_checker.specs.declared.verdict.Reason.TheVariants as reason

@@ -14,9 +14,9 @@ use Rattle.tour_model.specs.Layer.{layer_at}
 use Rattle.tour_model.specs.Word.{word_length}
 use Rattle.cert_text.specs.declared.cert.Cert.{Cert}
 use Rattle.cert_text.specs.declared.cert.CertLabel.{CertLabel}
-use Rattle.cert_text.specs.Problem.{Problem, is_better, root_label}
-use Rattle.cert_text.specs.Planning.{problem_of, minute_of, state_at}
-use Rattle.cert_text.specs.Cover.{IsCovered, NoneCovers, NoneIsBetter, IsLabelAt, IsPruned}
+use Rattle.cert_text.specs.CoverLists.Problem.{Problem, is_better, root_label}
+use Rattle.cert_text.specs.CoverLists.Planning.{problem_of, minute_of, state_at}
+use Rattle.cert_text.specs.CoverLists.Cover.{IsCovered, NoneCovers, NoneIsBetter, IsLabelAt, IsPruned}
 use Rattle.cert_text.specs.Cert.{AreLabelsOf, AreLayersOf, IsValidCert}
 use Rattle.cert_checker.specs.Parsed.{label_of, labels_of, there}
 use Rattle.cert_checker.specs.Conditions.{Passes, PassUpTo, IsAnsweredFor, IsLongEnough, layer_of, LayersPass}

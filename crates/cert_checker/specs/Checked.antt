@@ -6,9 +6,9 @@ use Rattle.tour_model.specs.Schedule.{IsInfeasible}
 use Rattle.cert_text.specs.declared.cert.Cert.{Cert}
 use Rattle.cert_text.specs.declared.cert.CertKind.TheVariants.{Shortest, Infeasible}
 use Rattle.cert_text.specs.Cert.{IsValidCert}
-use Rattle.cert_text.specs.Form.{IsCertForm}
-use Rattle.cert_text.specs.Spelling.{IsCertText}
-use Rattle.cert_text.specs.BadLine.{IsBadLine}
+use Rattle.cert_text.specs.Text.Form.{IsCertForm}
+use Rattle.cert_text.specs.Text.Spelling.{IsCertText}
+use Rattle.cert_text.specs.Text.BadLine.{IsBadLine}
 use Rattle.cert_checker.specs.declared.verdict.Reason.{Reason}
 use Rattle.cert_checker.specs.declared.verdict.Reason.TheVariants as reason
 use Rattle.cert_checker.specs.declared.verdict.Verdict.{Verdict}

@@ -6,10 +6,10 @@ use Rattle.tour_model.specs.declared.label.Label.{Label}
 use Rattle.tour_model.specs.declared.tour.Tour.{Tour}
 use Rattle.tour_model.specs.Layer.{layer_at}
 use Rattle.cert_text.specs.declared.cert.CertLabel.{CertLabel}
-use Rattle.cert_text.specs.declared.grown.Grown.{Grown}
-use Rattle.cert_text.specs.Problem.{Problem, successors_of}
-use Rattle.cert_text.specs.Planning.{minute_of}
-use Rattle.cert_text.specs.Cover.{IsAtLeast, IsLabelAt, IsPruned, IsCovered, NoneCovers, taken}
+use Rattle.cert_text.specs.declared.cover_lists.grown.Grown.{Grown}
+use Rattle.cert_text.specs.CoverLists.Problem.{Problem, successors_of}
+use Rattle.cert_text.specs.CoverLists.Planning.{minute_of}
+use Rattle.cert_text.specs.CoverLists.Cover.{IsAtLeast, IsLabelAt, IsPruned, IsCovered, NoneCovers, taken}
 use Rattle.cert_checker.specs.declared.verdict.Reason.{Reason}
 use Rattle.cert_checker.specs.declared.verdict.Reason.TheVariants as reason
 use Rattle.cert_checker.specs.declared.layer.LabelFault.{LabelFault}

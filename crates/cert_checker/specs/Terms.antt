@@ -5,7 +5,7 @@ use Rattle.tour_model.specs.declared.label.Label.{Label}
 use Rattle.tour_model.specs.declared.limits.TheConstants.{STEP_LIMIT}
 use Rattle.tour_model.specs.Tour.{IsTour}
 use Rattle.tour_model.specs.Word.{word_length}
-use Rattle.cert_text.specs.Planning.{minute_of}
+use Rattle.cert_text.specs.CoverLists.Planning.{minute_of}
 use Rattle.cert_checker.specs.declared.terms.Terms.{Terms}
 use Rattle.cert_checker.specs.Parsed.{AreStatesIn}
 

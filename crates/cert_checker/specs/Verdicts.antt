@@ -12,9 +12,9 @@ use Rattle.tour_model.specs.Schedule.{duration, history_of, log_start, ServesTou
 use Rattle.cert_text.specs.declared.cert.Cert.{Cert}
 use Rattle.cert_text.specs.declared.cert.CertKind.TheVariants.{Shortest, Infeasible}
 use Rattle.cert_text.specs.declared.cert.CertLabel.{CertLabel}
-use Rattle.cert_text.specs.Problem.{Problem, root_label}
-use Rattle.cert_text.specs.Planning.{problem_of, state_at, IsLogState}
-use Rattle.cert_text.specs.Cover.{IsCovered}
+use Rattle.cert_text.specs.CoverLists.Problem.{Problem, root_label}
+use Rattle.cert_text.specs.CoverLists.Planning.{problem_of, state_at, IsLogState}
+use Rattle.cert_text.specs.CoverLists.Cover.{IsCovered}
 use Rattle.cert_text.specs.Cert.{acts_of_runs, IsClaim, IsValidCert}
 use Rattle.cert_checker.specs.declared.verdict.Reason.{Reason}
 use Rattle.cert_checker.specs.declared.verdict.Reason.TheVariants as reason

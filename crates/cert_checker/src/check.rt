@@ -6,7 +6,7 @@ ghost use Rattle.rule_core.specs.Replay.{AreRootStates, AreRootsOf};
 ghost use Rattle.tour_model.specs.Schedule.{log_start};
 ghost use Rattle.tour_model.specs.Tour.{IsTour};
 ghost use Rattle.tour_model.specs.Word.{word_length};
-ghost use Rattle.cert_text.specs.Planning.{problem_of, minute_of};
+ghost use Rattle.cert_text.specs.CoverLists.Planning.{problem_of, minute_of};
 ghost use Rattle.cert_checker.specs.Parsed.{there};
 ghost use Rattle.cert_checker.specs.Terms.{AreTerms};
 ghost use Rattle.cert_checker.specs.Conditions.{layer_of};

@@ -2,9 +2,9 @@
 ghost use Rattle.std.specs.Prelude.{◌≡◌, ◌<◌, ◌≤◌, length, take, Decides};
 ghost use Rattle.tour_model.specs.declared.limits.TheConstants.{STEP_LIMIT};
 ghost use Rattle.tour_model.specs.Tour.{IsTour};
-ghost use Rattle.cert_text.specs.Problem.{later, is_better};
-ghost use Rattle.cert_text.specs.Planning.{problem_of, minute_of};
-ghost use Rattle.cert_text.specs.Cover.{IsCovered};
+ghost use Rattle.cert_text.specs.CoverLists.Problem.{later, is_better};
+ghost use Rattle.cert_text.specs.CoverLists.Planning.{problem_of, minute_of};
+ghost use Rattle.cert_text.specs.CoverLists.Cover.{IsCovered};
 ghost use Rattle.cert_checker.specs.Parsed.{there};
 ghost use Rattle.cert_checker.specs.Terms.{AreCompared};
 ghost use Rattle.cert_checker.specs.Places.{label_at, labels_at};

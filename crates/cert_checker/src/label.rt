@@ -1,7 +1,7 @@
 //! The conditions on one label.
 ghost use Rattle.std.specs.Prelude.{◌≡◌, ◌-◌, ◌≤◌, length, take, Some, unwrap_or, Decides, IfOk, MatchOption};
-ghost use Rattle.cert_text.specs.Planning.{problem_of, state_at};
-ghost use Rattle.cert_text.specs.Cover.{IsAtLeast};
+ghost use Rattle.cert_text.specs.CoverLists.Planning.{problem_of, state_at};
+ghost use Rattle.cert_text.specs.CoverLists.Cover.{IsAtLeast};
 ghost use Rattle.cert_checker.specs.Parsed.{there, HasLeft};
 ghost use Rattle.cert_checker.specs.Terms.{AreStatesAt, HasNext};
 ghost use Rattle.cert_checker.specs.Conditions.{Passes, FailsBy, IsAnsweredFor};

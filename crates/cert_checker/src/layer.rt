@@ -2,7 +2,7 @@
 ghost use Rattle.std.specs.Prelude.{◌≡◌, ◌+◌, ◌<◌, ◌≤◌, length, take, Some, IfOk, MatchOption};
 ghost use Rattle.tour_model.specs.declared.limits.TheConstants.{STEP_LIMIT};
 ghost use Rattle.tour_model.specs.declared.label.Label.{Label};
-ghost use Rattle.cert_text.specs.Planning.{problem_of, state_at};
+ghost use Rattle.cert_text.specs.CoverLists.Planning.{problem_of, state_at};
 ghost use Rattle.cert_checker.specs.Parsed.{there, AreWithin};
 ghost use Rattle.cert_checker.specs.Terms.{AreTerms, AreStatesAt};
 ghost use Rattle.cert_checker.specs.Conditions.{Passes, FailsBy, PassUpTo, IsFirstFault};

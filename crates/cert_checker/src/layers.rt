@@ -2,7 +2,7 @@
 ghost use Rattle.std.specs.Prelude.{ℕ, ◌^◌, ◌<◌, length, IfOk, MatchOption};
 ghost use Rattle.tour_model.specs.declared.limits.TheConstants.{STEP_LIMIT};
 ghost use Rattle.tour_model.specs.Layer.{layer_at};
-ghost use Rattle.cert_text.specs.Planning.{problem_of, state_at};
+ghost use Rattle.cert_text.specs.CoverLists.Planning.{problem_of, state_at};
 ghost use Rattle.cert_checker.specs.Terms.{AreTerms};
 ghost use Rattle.cert_checker.specs.Conditions.{LayersPass, IsFirstLabel};
 

@@ -3,7 +3,7 @@ ghost use Rattle.std.specs.Prelude.{◌≡◌, ◌<◌, IfOk};
 ghost use Rattle.tour_model.specs.declared.limits.TheConstants.{STEP_LIMIT};
 ghost use Rattle.tour_model.specs.Layer.{layer_at};
 ghost use Rattle.tour_model.specs.Tour.{IsTour};
-ghost use Rattle.cert_text.specs.Planning.{minute_of};
+ghost use Rattle.cert_text.specs.CoverLists.Planning.{minute_of};
 ghost use Rattle.cert_checker.specs.Parsed.{label_of, labels_of, AreWithin};
 ghost use Rattle.cert_checker.specs.Terms.{AreStatesAt};
 

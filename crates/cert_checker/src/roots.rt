@@ -2,7 +2,7 @@
 ghost use Rattle.std.specs.Prelude.{Decides};
 ghost use Rattle.rule_core.specs.Replay.{AreRootStates};
 ghost use Rattle.tour_model.specs.Tour.{IsTour};
-ghost use Rattle.cert_text.specs.Planning.{problem_of, minute_of};
+ghost use Rattle.cert_text.specs.CoverLists.Planning.{problem_of, minute_of};
 ghost use Rattle.cert_checker.specs.Parsed.{there};
 ghost use Rattle.cert_checker.specs.Terms.{AreStatesAt};
 ghost use Rattle.cert_checker.specs.Rooted.{AreRooted};

@@ -10,14 +10,14 @@ use Rattle.cert_text.specs.declared.cert.CertKind.{CertKind}
 use Rattle.cert_text.specs.declared.cert.CertKind.TheVariants.{Shortest, Infeasible}
 use Rattle.cert_text.specs.declared.cert.CertLabel.{CertLabel}
 use Rattle.cert_text.specs.declared.cert.StepRun.{StepRun}
-use Rattle.cert_text.specs.declared.claim.Claim.{Claim}
-use Rattle.cert_text.specs.declared.marks.Marked.{Marked}
-use Rattle.cert_text.specs.BadLine.{line_feeds, AreLines, BeginsCert, IsBadLine}
-use Rattle.cert_text.specs.Form.{IsCertForm}
-use Rattle.cert_text.specs.Spelling.{IsCertText}
-use Rattle.cert_text.specs.Reading.{◌>>=◌, word_at, number_line_at, run_at, after_run, runs_at, mark_at, after_mark, marks_at, target_at, shortest_at, infeasible_at, kind_at, claim_of, claim_at, label_at, labels_at, layer_head_at, layer_at, layers_at, whole_at, ended, cert_at, line_at}
-use Rattle.cert_text.specs.Laws.WordLaws.{bind_is}
-use Rattle.cert_text.specs.Laws.CertTextLaws.{whole_takes, cert_again}
+use Rattle.cert_text.specs.declared.text.claim.Claim.{Claim}
+use Rattle.cert_text.specs.declared.text.marks.Marked.{Marked}
+use Rattle.cert_text.specs.Text.BadLine.{line_feeds, AreLines, BeginsCert, IsBadLine}
+use Rattle.cert_text.specs.Text.Form.{IsCertForm}
+use Rattle.cert_text.specs.Text.Spelling.{IsCertText}
+use Rattle.cert_text.specs.Text.Reading.{◌>>=◌, word_at, number_line_at, run_at, after_run, runs_at, mark_at, after_mark, marks_at, target_at, shortest_at, infeasible_at, kind_at, claim_of, claim_at, label_at, labels_at, layer_head_at, layer_at, layers_at, whole_at, ended, cert_at, line_at}
+use Rattle.cert_text.specs.Text.Laws.WordLaws.{bind_is}
+use Rattle.cert_text.specs.Text.Laws.CertTextLaws.{whole_takes, cert_again}
 use Rattle.cert_text.proofs.Lines.{feeds_append, feeds_of_lines, same_lines, fewer_lines, last_line}
 use Rattle.cert_text.proofs.Readers.{bind_err, Reads, Passes, Stops, reads_weaker, nothing_reads, then_reads, repeat_reads, word_reads}
 use Rattle.cert_text.proofs.LineReaders.{HasRoom, number_line_reads, target_reads, kind_reads, run_reads, mark_reads, label_reads, head_reads}

@@ -18,9 +18,9 @@ use Rattle.cert_text.specs.declared.cert.CertKind.{CertKind}
 use Rattle.cert_text.specs.declared.cert.CertKind.TheVariants.{Shortest, Infeasible}
 use Rattle.cert_text.specs.declared.cert.CertLabel.{CertLabel}
 use Rattle.cert_text.specs.declared.cert.StepRun.{StepRun}
-use Rattle.cert_text.specs.declared.limits.TheConstants.{CERT_LIMIT, MOST_LABELS}
-use Rattle.cert_text.specs.Form.{AreRunForms, IsLabelForm, IsLayerForm, IsClaimForm, IsCertForm}
-use Rattle.cert_text.specs.Spelling.{letter, number_line, kind_line, number_or_dash, target_line, run_line, IsMarkLine, AreMarkLines, state_number, label_line, layer_head, layer_lines, layers_lines, schedule_lines, claim_lines, cover_lines, IsCertText}
+use Rattle.cert_text.specs.declared.text.limits.TheConstants.{CERT_LIMIT, MOST_LABELS}
+use Rattle.cert_text.specs.Text.Form.{AreRunForms, IsLabelForm, IsLayerForm, IsClaimForm, IsCertForm}
+use Rattle.cert_text.specs.Text.Spelling.{letter, number_line, kind_line, number_or_dash, target_line, run_line, IsMarkLine, AreMarkLines, state_number, label_line, layer_head, layer_lines, layers_lines, schedule_lines, claim_lines, cover_lines, IsCertText}
 
 short_number : (n : ℕ) → n < NUMBER_LIMIT → length (decimal n) ≤ 6
 short_number n lt = length-decimal-le 6 n (omega arith) lt (omega arith)

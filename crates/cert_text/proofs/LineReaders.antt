@@ -14,17 +14,17 @@ use Rattle.cert_text.specs.declared.cert.CertKind.{CertKind}
 use Rattle.cert_text.specs.declared.cert.CertKind.TheVariants.{Shortest, Infeasible}
 use Rattle.cert_text.specs.declared.cert.CertLabel.{CertLabel}
 use Rattle.cert_text.specs.declared.cert.StepRun.{StepRun}
-use Rattle.cert_text.specs.declared.marks.Marked.{Marked}
-use Rattle.cert_text.specs.declared.marks.MarkPlace.{MarkPlace}
-use Rattle.cert_text.specs.BadLine.{line_feeds, IsLine}
-use Rattle.cert_text.specs.Form.{IsLabelForm}
-use Rattle.cert_text.specs.Spelling.{letter, number_line, kind_line, number_or_dash, target_line, run_line, mark_word, state_number, label_line, layer_head}
-use Rattle.cert_text.specs.Reading.{◌>>=◌, strip_at, word_at, number_at, dash_or_number_at, number_line_at, letter_at, may_follow, run_at, time_at, mark_word_at, mark_of, marked_is, has_room, mark_at, after_mark, target_at, or_infeasible, kind_at, numbers_at, label_at, layer_head_at}
-use Rattle.cert_text.specs.Laws.ItemLaws.{number_line_takes, number_line_again}
-use Rattle.cert_text.specs.Laws.RunLaws.{follows, GoodRun, run_takes, run_again}
-use Rattle.cert_text.specs.Laws.MarkTextLaws.{GoodMark, mark_takes, mark_again}
-use Rattle.cert_text.specs.Laws.LayerLaws.{GoodLabel, label_takes, label_again, layer_head_takes, layer_head_again}
-use Rattle.cert_text.specs.Laws.CertTextLaws.{target_takes, target_again, kind_takes, kind_again}
+use Rattle.cert_text.specs.declared.text.marks.Marked.{Marked}
+use Rattle.cert_text.specs.declared.text.marks.MarkPlace.{MarkPlace}
+use Rattle.cert_text.specs.Text.BadLine.{line_feeds, IsLine}
+use Rattle.cert_text.specs.Text.Form.{IsLabelForm}
+use Rattle.cert_text.specs.Text.Spelling.{letter, number_line, kind_line, number_or_dash, target_line, run_line, mark_word, state_number, label_line, layer_head}
+use Rattle.cert_text.specs.Text.Reading.{◌>>=◌, strip_at, word_at, number_at, dash_or_number_at, number_line_at, letter_at, may_follow, run_at, time_at, mark_word_at, mark_of, marked_is, has_room, mark_at, after_mark, target_at, or_infeasible, kind_at, numbers_at, label_at, layer_head_at}
+use Rattle.cert_text.specs.Text.Laws.ItemLaws.{number_line_takes, number_line_again}
+use Rattle.cert_text.specs.Text.Laws.RunLaws.{follows, GoodRun, run_takes, run_again}
+use Rattle.cert_text.specs.Text.Laws.MarkTextLaws.{GoodMark, mark_takes, mark_again}
+use Rattle.cert_text.specs.Text.Laws.LayerLaws.{GoodLabel, label_takes, label_again, layer_head_takes, layer_head_again}
+use Rattle.cert_text.specs.Text.Laws.CertTextLaws.{target_takes, target_again, kind_takes, kind_again}
 use Rattle.cert_text.proofs.Lines.{none_append}
 use Rattle.cert_text.proofs.Readers.{bind_err, not_both, word_left, Reads, StopsWithin, stops_here, line_reads}
 use Rattle.cert_text.proofs.Within.{stays_then, stays_word, stays_end, test_left, plain_decimal, number_within, plain_dash, dash_within, plain_numbers, numbers_within, plain_letter, letter_within, plain_time, time_within, mark_word_within}

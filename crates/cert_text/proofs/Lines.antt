@@ -2,7 +2,7 @@
 use Rattle.std.proofs.Common.{◌≡◌, ℕ, zero, suc, ◌+◌, ◌≤◌, cond, eqb, List, [], ◌∷◌, ◌++◌, codes, refl, sym, ap, subst, ◌∙◌, append_assoc, arith}
 use Rattle.std.proofs.lemmas.List.{append-nil}
 use Rattle.std.proofs.lemmas.List.Sums.{sum_by-cons, sum_by-append}
-use Rattle.cert_text.specs.BadLine.{line_feeds, IsLine, AreLines}
+use Rattle.cert_text.specs.Text.BadLine.{line_feeds, IsLine, AreLines}
 
 abbrev feed : ℕ → ℕ
 feed b = cond (eqb b 10) 1 0

@@ -1,9 +1,9 @@
 -- Reading items one after the other, as a loop does.
 use Rattle.std.proofs.Common.{◌≡◌, ℕ, suc, ◌-◌, ◌+◌, ◌≤◌, ◌<◌, List, [], ◌∷◌, ◌++◌, Result, Ok, Err, refl, sym, ap, ◌∙◌, append_assoc, arith}
 use Rattle.std.proofs.lemmas.List.{append-nil}
-use Rattle.cert_text.specs.declared.fault.Stop.{Stop}
-use Rattle.cert_text.specs.declared.fault.Stop.TheVariants as stop
-use Rattle.cert_text.specs.Reading.{◌>>=◌, Fails, repeat_at}
+use Rattle.cert_text.specs.declared.text.fault.Stop.{Stop}
+use Rattle.cert_text.specs.declared.text.fault.Stop.TheVariants as stop
+use Rattle.cert_text.specs.Text.Reading.{◌>>=◌, Fails, repeat_at}
 
 -- what was read before, and what is still read
 abbrev pub with_front : {B : Type 0} → List B → Result (List B × List ℕ) ℕ → Result (List B × List ℕ) ℕ

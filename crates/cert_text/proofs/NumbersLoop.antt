@@ -1,9 +1,9 @@
 -- Reading the numbers of a state one after the other, as a loop does.
 use Rattle.std.proofs.Common.{◌≡◌, ℕ, suc, ◌-◌, ◌+◌, ◌≤◌, ◌<◌, List, [], ◌∷◌, ◌++◌, codes, None, Some, Result, Ok, Err, refl, sym, ap, ◌∙◌, arith}
 use Rattle.std.proofs.lemmas.List.{append-nil}
-use Rattle.cert_text.specs.declared.fault.Stop.{Stop}
-use Rattle.cert_text.specs.declared.fault.Stop.TheVariants as stop
-use Rattle.cert_text.specs.Reading.{Fails, strip_at, number_at, numbers_at}
+use Rattle.cert_text.specs.declared.text.fault.Stop.{Stop}
+use Rattle.cert_text.specs.declared.text.fault.Stop.TheVariants as stop
+use Rattle.cert_text.specs.Text.Reading.{Fails, strip_at, number_at, numbers_at}
 use Rattle.cert_text.proofs.Loop.{with_front, regroup}
 
 -- one number more

@@ -10,8 +10,8 @@ use Rattle.cert_text.specs.declared.cert.CertKind.TheVariants.{Shortest, Infeasi
 use Rattle.cert_text.specs.declared.cert.CertLabel.{CertLabel}
 use Rattle.cert_text.specs.declared.cert.StepRun.{StepRun}
 use Rattle.rule_core.specs.declared.numbers.TheConstants.{NUMBER_LIMIT}
-use Rattle.cert_text.specs.Form.{IsMarkForm, AreMarkForms, IsClaimForm}
-use Rattle.cert_text.specs.Spelling.{IsMarkLine, AreMarkLines, layer_lines, layers_lines}
+use Rattle.cert_text.specs.Text.Form.{IsMarkForm, AreMarkForms, IsClaimForm}
+use Rattle.cert_text.specs.Text.Spelling.{IsMarkLine, AreMarkLines, layer_lines, layers_lines}
 
 -- a mark line more
 pub mark_lines_more : (params : Params) (marks : List Mark) (mark : Mark) (text line : List ℕ) → AreMarkLines params marks text → IsMarkLine params mark line → AreMarkLines params (marks ++ mark ∷ []) (text ++ line)

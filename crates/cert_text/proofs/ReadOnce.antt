@@ -5,10 +5,10 @@ use Rattle.duty_core.specs.declared.params.Params.TheVariants.{UsProperty, Canad
 use Rattle.duty_core.specs.Day.{day_start}
 use Rattle.tour_model.specs.Tour.{IsParams}
 use Rattle.cert_text.specs.declared.cert.Cert.{Cert}
-use Rattle.cert_text.specs.Form.{IsCertForm}
-use Rattle.cert_text.specs.Spelling.{IsCertText}
-use Rattle.cert_text.specs.Reading.{cert_at}
-use Rattle.cert_text.specs.Laws.CertTextLaws.{cert_again}
+use Rattle.cert_text.specs.Text.Form.{IsCertForm}
+use Rattle.cert_text.specs.Text.Spelling.{IsCertText}
+use Rattle.cert_text.specs.Text.Reading.{cert_at}
+use Rattle.cert_text.specs.Text.Laws.CertTextLaws.{cert_again}
 
 -- a day of a tour begins before midnight
 pub start_low : (params : Params) → IsParams params → day_start params < 1440

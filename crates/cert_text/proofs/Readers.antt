@@ -1,8 +1,8 @@
 -- Readers of whole lines: what they take, how a text goes on where they stop, and that none goes on with the line at which they stop.
 use Rattle.std.proofs.Common.{◌≡◌, ℕ, zero, suc, ◌+◌, ◌⊎◌, inl, inr, List, [], ◌∷◌, ◌++◌, length, codes, Option, None, Some, Result, Ok, Err, refl, sym, ap, subst, ◌∙◌, append_assoc}
-use Rattle.cert_text.specs.BadLine.{line_feeds, IsLine, AreLines}
-use Rattle.cert_text.specs.Reading.{◌>>=◌, or_left, strip_at, repeat_at, word_at}
-use Rattle.cert_text.specs.Laws.WordLaws.{bind_ok, bind_is, ok_is, then_takes, word_takes, word_again}
+use Rattle.cert_text.specs.Text.BadLine.{line_feeds, IsLine, AreLines}
+use Rattle.cert_text.specs.Text.Reading.{◌>>=◌, or_left, strip_at, repeat_at, word_at}
+use Rattle.cert_text.specs.Text.Laws.WordLaws.{bind_ok, bind_is, ok_is, then_takes, word_takes, word_again}
 use Rattle.cert_text.proofs.Lines.{a_line, lines_append, same_words}
 
 -- where two readers stop

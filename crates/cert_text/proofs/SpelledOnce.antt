@@ -6,10 +6,10 @@ use Rattle.duty_core.specs.declared.mark.Mark.{Mark}
 use Rattle.duty_core.specs.declared.params.Params.{Params}
 use Rattle.duty_core.specs.Day.{day_start}
 use Rattle.cert_text.specs.declared.cert.Cert.{Cert}
-use Rattle.cert_text.specs.Form.{IsCertForm}
-use Rattle.cert_text.specs.Spelling.{mark_word, IsMarkLine, AreMarkLines, claim_lines, cover_lines, IsCertText}
-use Rattle.cert_text.specs.Laws.MarkTextLaws.{one_minute}
-use Rattle.cert_text.specs.Laws.CertTextLaws.{cert_again}
+use Rattle.cert_text.specs.Text.Form.{IsCertForm}
+use Rattle.cert_text.specs.Text.Spelling.{mark_word, IsMarkLine, AreMarkLines, claim_lines, cover_lines, IsCertText}
+use Rattle.cert_text.specs.Text.Laws.MarkTextLaws.{one_minute}
+use Rattle.cert_text.specs.Text.Laws.CertTextLaws.{cert_again}
 
 one_mark_line : (params : Params) (mark : Mark) (a b : List ℕ) → IsMarkLine params mark a → IsMarkLine params mark b → a ≡ b
 one_mark_line params mark a b h k =

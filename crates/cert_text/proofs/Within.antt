@@ -12,13 +12,13 @@ use Rattle.civil_minutes.specs.TimeOf.{time_of}
 use Rattle.duty_core.specs.declared.activity.Activity.{Activity}
 use Rattle.duty_core.specs.declared.activity.Activity.TheVariants.{Drive, Serve, Wait, Off, Berth}
 use Rattle.rule_core.specs.declared.numbers.TheConstants.{NUMBER_LIMIT}
-use Rattle.cert_text.specs.BadLine.{line_feeds}
-use Rattle.cert_text.specs.Spelling.{letter, number_or_dash, state_number}
-use Rattle.cert_text.specs.Reading.{◌>>=◌, strip_at, word_at, digits_at, number_at, dash_or_number_at, act_of, letter_is, letter_at, time_is, time_at, or_defer, mark_word_at, after_space, numbers_at}
-use Rattle.cert_text.specs.Laws.WordLaws.{strip_takes, word_takes, number_takes}
-use Rattle.cert_text.specs.Laws.RunLaws.{letter_takes}
-use Rattle.cert_text.specs.Laws.MarkTextLaws.{time_takes, word_of, mark_word_takes}
-use Rattle.cert_text.specs.Laws.LayerLaws.{dash_takes, numbers_take}
+use Rattle.cert_text.specs.Text.BadLine.{line_feeds}
+use Rattle.cert_text.specs.Text.Spelling.{letter, number_or_dash, state_number}
+use Rattle.cert_text.specs.Text.Reading.{◌>>=◌, strip_at, word_at, digits_at, number_at, dash_or_number_at, act_of, letter_is, letter_at, time_is, time_at, or_defer, mark_word_at, after_space, numbers_at}
+use Rattle.cert_text.specs.Text.Laws.WordLaws.{strip_takes, word_takes, number_takes}
+use Rattle.cert_text.specs.Text.Laws.RunLaws.{letter_takes}
+use Rattle.cert_text.specs.Text.Laws.MarkTextLaws.{time_takes, word_of, mark_word_takes}
+use Rattle.cert_text.specs.Text.Laws.LayerLaws.{dash_takes, numbers_take}
 use Rattle.cert_text.proofs.Lines.{none_append}
 use Rattle.cert_text.proofs.Readers.{bind_err, not_both, word_left, StopsWithin, stops_here}
 

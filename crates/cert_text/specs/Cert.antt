@@ -11,8 +11,8 @@ use Rattle.cert_text.specs.declared.cert.CertKind.{CertKind}
 use Rattle.cert_text.specs.declared.cert.CertKind.TheVariants.{Shortest, Infeasible}
 use Rattle.cert_text.specs.declared.cert.CertLabel.{CertLabel}
 use Rattle.cert_text.specs.declared.cert.StepRun.{StepRun}
-use Rattle.cert_text.specs.Planning.{minute_of, state_at, problem_of, IsLogState}
-use Rattle.cert_text.specs.Cover.{IsCoverList}
+use Rattle.cert_text.specs.CoverLists.Planning.{minute_of, state_at, problem_of, IsLogState}
+use Rattle.cert_text.specs.CoverLists.Cover.{IsCoverList}
 
 -- the activities of run lines, one for each step
 abbrev pub acts_of_runs : List StepRun → List Activity

@@ -1,10 +1,3 @@
-pub mod Problem
-pub mod Planning
-pub mod Cover
-pub mod Continuation
+pub mod CoverLists
 pub mod Cert
-pub mod Form
-pub mod Spelling
-pub mod BadLine
-pub mod Reading
-pub mod Laws
+pub mod Text

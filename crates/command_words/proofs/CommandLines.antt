@@ -13,7 +13,7 @@ use Rattle.clap.specs.declared.builder.value_parser.ValueParser.TheVariants.{Uns
 use Rattle.clap.specs.declared.parser.matches.ArgMatches.{ArgMatches}
 use Rattle.clap.proofs.WalkLemmas.{first_value-rows}
 use Rattle.outside.specs.Outside.{Bytes}
-use Rattle.label_search.specs.declared.by_layers.TheConstants.{MOST_BUDGET}
+use Rattle.cert_text.specs.declared.text.limits.TheConstants.{MOST_LABELS}
 use Rattle.report_text.specs.declared.maker.TheConstants.{MOST_MADE}
 use Rattle.command_words.specs.declared.command.Command as planner
 use Rattle.command_words.specs.declared.command.Command.TheVariants.{Plan, Check, Audit, Graph, Make}
@@ -66,9 +66,9 @@ made_number_given c m e p =
 
 -- so has the budget
 pub budget_given : (c : Command) (m : ArgMatches) → app_of c ≡ plan_call → IsParsedFrom c m
-    → FirstValue (found_of m) (codes "budget") false (Unsigned 1 MOST_BUDGET)
+    → FirstValue (found_of m) (codes "budget") false (Unsigned 1 MOST_LABELS)
 budget_given c m e p =
-    value_read c plan_call m e refl p 3 budget_option refl (refl, refl, inr (omega arith)) (Unsigned 1 MOST_BUDGET) refl
+    value_read c plan_call m e refl p 3 budget_option refl (refl, refl, inr (omega arith)) (Unsigned 1 MOST_LABELS) refl
 
 -- where the command takes the words, the names of a tour and a log are those that were found
 pub names_found : (c : Command) (a : App) (m : ArgMatches) (words : List Bytes) (tour log : Bytes) → app_of c ≡ a
@@ -125,7 +125,7 @@ number_in call words id least most n h =
 
 -- the numbers of a command line are such as may be given
 pub command_line_budget : (words : List Bytes) (c : planner.Command) → IsCommandLine words c → HasBudget c
-command_line_budget words (Plan tour log cert budget) s = number_in plan_call words (codes "budget") 1 MOST_BUDGET budget s.4
+command_line_budget words (Plan tour log cert budget) s = number_in plan_call words (codes "budget") 1 MOST_LABELS budget s.4
 command_line_budget words (Check tour log cert) s = tt
 command_line_budget words (Audit tour log) s = tt
 command_line_budget words (Graph tour log) s = tt
@@ -177,7 +177,7 @@ one_command words (Plan tour log cert budget) (Plan tour' log' cert' budget') p 
     let t = same_word plan_call words (codes "tour") tour tour' p.1 q.1 in
     let l = same_word plan_call words (codes "log") log log' p.2 q.2 in
     let c = same_word plan_call words (codes "cert") cert cert' p.3 q.3 in
-    let n = same_number plan_call words (codes "budget") 1 MOST_BUDGET budget budget' p.4 q.4 in
+    let n = same_number plan_call words (codes "budget") 1 MOST_LABELS budget budget' p.4 q.4 in
     rw (t, l, c, n) refl
 one_command words (Check tour log cert) (Check tour' log' cert') p q =
     let t = same_word check_call words (codes "tour") tour tour' p.1 q.1 in

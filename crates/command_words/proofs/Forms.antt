@@ -14,7 +14,7 @@ use Rattle.clap.specs.declared.parser.matches.ValueSource.TheVariants.{CommandLi
 use Rattle.clap.proofs.OnLiterals.{clap_on_literals}
 use Rattle.clap.proofs.ValueTestLemmas.{accepts-Accepts, Accepts-accepts}
 use Rattle.outside.specs.Outside.{Bytes}
-use Rattle.label_search.specs.declared.by_layers.TheConstants.{MOST_BUDGET}
+use Rattle.cert_text.specs.declared.text.limits.TheConstants.{MOST_LABELS}
 use Rattle.command_words.specs.declared.command.Command.TheVariants.{Plan, Check, Audit, Graph, Make}
 use Rattle.report_text.specs.declared.maker.TheConstants.{MOST_MADE}
 use Rattle.command_words.specs.declared.command.TheConstants.{BUDGET}
@@ -48,8 +48,8 @@ kinds_pass ignore_case q text e = rw e refl
 number_passes : (text : Text) (least most n : ℕ) → IsNumber text least most n → value_kinds false (Unsigned least most) text ≡ []
 number_passes text least most n h = kinds_pass false (Unsigned least most) text (Accepts-accepts false (Unsigned least most) text h.0)
 
-usual_budget : IsNumber (codes "200000") 1 MOST_BUDGET BUDGET
-usual_budget = (accepts-Accepts false (Unsigned 1 MOST_BUDGET) (codes "200000") refl, refl)
+usual_budget : IsNumber (codes "200000") 1 MOST_LABELS BUDGET
+usual_budget = (accepts-Accepts false (Unsigned 1 MOST_LABELS) (codes "200000") refl, refl)
 
 -- ---- what is held
 
@@ -175,7 +175,7 @@ value_then rows i text rest w plain e =
     ends_after s (walk_at (wanting rows) (option (codes "budget")) i) (walk_at (holding rows (codes "budget") text) idle i) w text rest
     (turn_plain s (wanting rows) (option (codes "budget")) i text bare) (walked_plain s.rules (wanting rows) (option (codes "budget")) i text bare) e
 
-pub budget_after : (t l c text : Bytes) (n : ℕ) → IsPlainName t → IsPlainName l → IsPlainName c → IsNumber text 1 MOST_BUDGET n
+pub budget_after : (t l c text : Bytes) (n : ℕ) → IsPlainName t → IsPlainName l → IsPlainName c → IsNumber text 1 MOST_LABELS n
     → IsCommandLine (codes "plan" ∷ t ∷ l ∷ c ∷ codes "--budget" ∷ text ∷ []) (Plan t l c n)
 unfolding clap_on_literals
 budget_after t l c text n p q r number =
@@ -183,9 +183,9 @@ budget_after t l c text n p q r number =
     let w = walk_at (holding (three_names t l c) (codes "budget") text) idle 4 in
     let e = names_then t l c (codes "--budget" ∷ text ∷ []) w p q r
     (ends_after s (three_walk t l c) (walk_at (wanting (three_names t l c)) (option (codes "budget")) 4) w (codes "--budget") (text ∷ []) refl refl
-    (value_then (three_names t l c) 4 text [] w (number_plain text 1 MOST_BUDGET n number) (ends_here s w))) in
+    (value_then (three_names t l c) 4 text [] w (number_plain text 1 MOST_LABELS n number) (ends_here s w))) in
     let words = t ∷ l ∷ c ∷ codes "--budget" ∷ text ∷ [] in (
-      (refl, taken_by (codes "plan") four words w e refl (ap (λ ks. or_else (or_else ks []) []) (number_passes text 1 MOST_BUDGET n number))),
+      (refl, taken_by (codes "plan") four words w e refl (ap (λ ks. or_else (or_else ks []) []) (number_passes text 1 MOST_LABELS n number))),
       word_by (codes "plan") four words w (codes "tour") t e refl,
       word_by (codes "plan") four words w (codes "log") l e refl,
       word_by (codes "plan") four words w (codes "cert") c e refl,
@@ -195,7 +195,7 @@ budget_after t l c text n p q r number =
 abbrev before_walk : Text → Text → Text → Text → Walk
 before_walk t l c text = walk_at (holding (given (codes "budget") text ∷ names t l) (codes "cert") c) idle 4
 
-before_ends : (t l c text : Text) (n : ℕ) → IsPlainName t → IsPlainName l → IsPlainName c → IsNumber text 1 MOST_BUDGET n
+before_ends : (t l c text : Text) (n : ℕ) → IsPlainName t → IsPlainName l → IsPlainName c → IsNumber text 1 MOST_LABELS n
     → WalksTo (shape (codes "plan") four) (walk_from nothing_held) (codes "--budget" ∷ text ∷ t ∷ l ∷ c ∷ []) (before_walk t l c text)
 unfolding clap_on_literals
 before_ends t l c text n p q r number =
@@ -205,13 +205,13 @@ before_ends t l c text n p q r number =
     let one = holding (b ∷ []) (codes "tour") t in
     let two = holding (b ∷ given (codes "tour") t ∷ []) (codes "log") l in
     ends_after s (walk_from nothing_held) (walk_at (wanting []) (option (codes "budget")) 1) w (codes "--budget") (text ∷ t ∷ l ∷ c ∷ []) refl refl
-    (value_then [] 1 text (t ∷ l ∷ c ∷ []) w (number_plain text 1 MOST_BUDGET n number)
+    (value_then [] 1 text (t ∷ l ∷ c ∷ []) w (number_plain text 1 MOST_LABELS n number)
     (place_step s (holding [] (codes "budget") text) one 1 2 t (l ∷ c ∷ []) w p
-    (ap (λ ks. or_else ks []) (number_passes text 1 MOST_BUDGET n number)) refl
+    (ap (λ ks. or_else ks []) (number_passes text 1 MOST_LABELS n number)) refl
     (place_step s one two 2 3 l (c ∷ []) w q refl refl
     (place_step s two w.held 3 4 c [] w r refl refl (ends_here s w)))))
 
-pub budget_before : (t l c text : Bytes) (n : ℕ) → IsPlainName t → IsPlainName l → IsPlainName c → IsNumber text 1 MOST_BUDGET n
+pub budget_before : (t l c text : Bytes) (n : ℕ) → IsPlainName t → IsPlainName l → IsPlainName c → IsNumber text 1 MOST_LABELS n
     → IsCommandLine (codes "plan" ∷ codes "--budget" ∷ text ∷ t ∷ l ∷ c ∷ []) (Plan t l c n)
 unfolding clap_on_literals
 budget_before t l c text n p q r number =
@@ -233,7 +233,7 @@ joined_walk t l c text =
       skip = 0;
     }) idle 4
 
-pub budget_joined : (t l c text : Bytes) (n : ℕ) → IsPlainName t → IsPlainName l → IsPlainName c → IsNumber text 1 MOST_BUDGET n
+pub budget_joined : (t l c text : Bytes) (n : ℕ) → IsPlainName t → IsPlainName l → IsPlainName c → IsNumber text 1 MOST_LABELS n
     → IsCommandLine (codes "plan" ∷ t ∷ l ∷ c ∷ (codes "--budget=" ++ text) ∷ []) (Plan t l c n)
 unfolding clap_on_literals
 budget_joined t l c text n p q r number =
@@ -241,7 +241,7 @@ budget_joined t l c text n p q r number =
     let w = joined_walk t l c text in
     let e = names_then t l c ((codes "--budget=" ++ text) ∷ []) w p q r
     (ends_after s (three_walk t l c) w w (codes "--budget=" ++ text) []
-    (ap (λ ks. or_else (or_else ks []) []) (number_passes text 1 MOST_BUDGET n number)) refl (ends_here s w)) in
+    (ap (λ ks. or_else (or_else ks []) []) (number_passes text 1 MOST_LABELS n number)) refl (ends_here s w)) in
     let words = t ∷ l ∷ c ∷ (codes "--budget=" ++ text) ∷ [] in (
       (refl, taken_by (codes "plan") four words w e refl refl),
       word_by (codes "plan") four words w (codes "tour") t e refl,

@@ -4,7 +4,7 @@ use Rattle.clap.specs.Walk.{Rule, Text}
 use Rattle.clap.specs.Simple.{App, new_rule, new_shape}
 use Rattle.clap.specs.declared.builder.action.ArgAction.TheVariants.{Set}
 use Rattle.clap.specs.declared.builder.value_parser.ValueParser.TheVariants.{Unsigned}
-use Rattle.label_search.specs.declared.by_layers.TheConstants.{MOST_BUDGET}
+use Rattle.cert_text.specs.declared.text.limits.TheConstants.{MOST_LABELS}
 use Rattle.report_text.specs.declared.maker.TheConstants.{MOST_MADE}
 
 -- a word that has to be there, in its place
@@ -20,7 +20,7 @@ abbrev pub budget_option : Rule
 budget_option = record (new_rule (codes "budget")) {
   long = Some (codes "budget");
   action = Some Set;
-  parser = Some (Unsigned 1 MOST_BUDGET);
+  parser = Some (Unsigned 1 MOST_LABELS);
   defaults = codes "200000" ∷ [];
 }
 

@@ -6,7 +6,7 @@ use Rattle.clap.specs.Values.{IsUnsignedIn}
 use Rattle.clap.specs.Simple.{App, matches_of}
 use Rattle.clap.specs.Faults.{fault_of}
 use Rattle.outside.specs.Outside.{Bytes}
-use Rattle.label_search.specs.declared.by_layers.TheConstants.{MOST_BUDGET}
+use Rattle.cert_text.specs.declared.text.limits.TheConstants.{MOST_LABELS}
 use Rattle.command_words.specs.declared.command.Command.{Command}
 use Rattle.command_words.specs.declared.command.Command.TheVariants.{Plan, Check, Audit, Graph, Make}
 use Rattle.report_text.specs.declared.maker.TheConstants.{MOST_MADE}
@@ -32,7 +32,7 @@ HasNumber call words id least most number = (text : Bytes) × HasWord call words
 abbrev pub IsCommandLine : List Bytes → Command → Type 0
 IsCommandLine words (Plan tour log cert budget) = Takes plan_call words
     × HasWord plan_call words (codes "tour") tour × HasWord plan_call words (codes "log") log
-    × HasWord plan_call words (codes "cert") cert × HasNumber plan_call words (codes "budget") 1 MOST_BUDGET budget
+    × HasWord plan_call words (codes "cert") cert × HasNumber plan_call words (codes "budget") 1 MOST_LABELS budget
 IsCommandLine words (Check tour log cert) = Takes check_call words
     × HasWord check_call words (codes "tour") tour × HasWord check_call words (codes "log") log
     × HasWord check_call words (codes "cert") cert
@@ -54,7 +54,7 @@ AreRefused words = All (λ call. Takes call words → ⊥) calls
 
 -- The numbers of a command are such as may be given.
 abbrev pub HasBudget : Command → Type 0
-HasBudget (Plan tour log cert budget) = (1 ≤ budget) × (budget ≤ MOST_BUDGET)
+HasBudget (Plan tour log cert budget) = (1 ≤ budget) × (budget ≤ MOST_LABELS)
 HasBudget (Make number tour log) = number ≤ MOST_MADE
 HasBudget (Check tour log cert) = Unit {0}
 HasBudget (Audit tour log) = Unit {0}

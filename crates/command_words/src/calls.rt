@@ -5,7 +5,7 @@ ghost use Rattle.clap.specs.Words.{app_of, rule_of, with_rule};
 ghost use Rattle.command_words.specs.Calls.{place, number_place, budget_option, call, plan_call, check_call, audit_call, graph_call, make_call};
 
 use clap::{Arg, ArgAction, Command, value_parser};
-use label_search::MOST_BUDGET;
+use cert_text::MOST_LABELS;
 use report_text::MOST_MADE;
 use std::alloc::{AllocError, Global};
 
@@ -34,7 +34,7 @@ fn budget_option<'a>(alloc: Global) -> Arg<'a>
     Arg::new(alloc, "budget")
         .long("budget")
         .action(ArgAction::Set)
-        .value_parser(value_parser!(u64).range(1..=i64::from(MOST_BUDGET)))
+        .value_parser(value_parser!(u64).range(1..=i64::from(MOST_LABELS)))
         .default_value("200000")
 }
 

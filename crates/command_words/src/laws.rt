@@ -1,6 +1,6 @@
 //! What holds of every list of words. The functions do nothing: their clauses are the laws.
 ghost use Rattle.std.specs.Prelude.{◌≡◌, ℕ, List, [], ◌∷◌, ◌++◌, codes};
-ghost use Rattle.label_search.specs.declared.by_layers.TheConstants.{MOST_BUDGET};
+ghost use Rattle.cert_text.specs.declared.text.limits.TheConstants.{MOST_LABELS};
 ghost use Rattle.outside.specs.Outside.{Bytes};
 ghost use Rattle.command_words.specs.declared.command.Command.{Command};
 ghost use Rattle.command_words.specs.declared.command.Command.TheVariants.{Plan, Check, Audit, Graph, Make};
@@ -30,11 +30,11 @@ pub fn plain_forms_are_commands()
 
 /// A budget stands after the names or before them, as two words or as one.
 pub fn budgets_are_read()
-    ensures after { (tour log cert text : Bytes) (budget : ℕ) → IsPlainName tour → IsPlainName log → IsPlainName cert → IsNumber text 1 MOST_BUDGET budget →
+    ensures after { (tour log cert text : Bytes) (budget : ℕ) → IsPlainName tour → IsPlainName log → IsPlainName cert → IsNumber text 1 MOST_LABELS budget →
         IsCommandLine (codes "plan" ∷ tour ∷ log ∷ cert ∷ codes "--budget" ∷ text ∷ []) (Plan tour log cert budget) }
-    ensures before { (tour log cert text : Bytes) (budget : ℕ) → IsPlainName tour → IsPlainName log → IsPlainName cert → IsNumber text 1 MOST_BUDGET budget →
+    ensures before { (tour log cert text : Bytes) (budget : ℕ) → IsPlainName tour → IsPlainName log → IsPlainName cert → IsNumber text 1 MOST_LABELS budget →
         IsCommandLine (codes "plan" ∷ codes "--budget" ∷ text ∷ tour ∷ log ∷ cert ∷ []) (Plan tour log cert budget) }
-    ensures joined { (tour log cert text : Bytes) (budget : ℕ) → IsPlainName tour → IsPlainName log → IsPlainName cert → IsNumber text 1 MOST_BUDGET budget →
+    ensures joined { (tour log cert text : Bytes) (budget : ℕ) → IsPlainName tour → IsPlainName log → IsPlainName cert → IsNumber text 1 MOST_LABELS budget →
         IsCommandLine (codes "plan" ∷ tour ∷ log ∷ cert ∷ (codes "--budget=" ++ text) ∷ []) (Plan tour log cert budget) }
 {}
 

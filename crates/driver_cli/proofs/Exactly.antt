@@ -14,7 +14,7 @@ use Rattle.duty_log.specs.declared.fault.LogFault.{LogFault}
 use Rattle.duty_log.specs.declared.read.TheConstants.{LOG_LIMIT}
 use Rattle.duty_log.specs.Log.{ReadsLog}
 use Rattle.duty_log.specs.Laws.LogLaws.{one_log}
-use Rattle.cert_text.specs.declared.limits.TheConstants.{CERT_LIMIT}
+use Rattle.cert_text.specs.declared.text.limits.TheConstants.{CERT_LIMIT}
 use Rattle.tour_plan.specs.Planned.{IsLawfulLog, HasAsMany}
 use Rattle.driver_cli.specs.declared.answer.Status.{Status}
 use Rattle.driver_cli.specs.declared.answer.Status.TheVariants.{Done, Refused, Infeasible, LogUnlawful, Spent, ReadFault, WriteFault, Memory, Rejected}

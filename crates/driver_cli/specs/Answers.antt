@@ -6,7 +6,7 @@ use Rattle.tour_model.specs.declared.tour.Tour.{Tour}
 use Rattle.tour_model.specs.Schedule.{log_start, IsSolutionWith, IsShortest, IsInfeasible}
 use Rattle.cert_text.specs.declared.cert.Cert.{Cert}
 use Rattle.cert_text.specs.declared.cert.CertKind.TheVariants as kind
-use Rattle.cert_text.specs.declared.limits.TheConstants.{CERT_LIMIT}
+use Rattle.cert_text.specs.declared.text.limits.TheConstants.{CERT_LIMIT}
 use Rattle.cert_text.specs.Cert.{acts_of_runs}
 use Rattle.cert_checker.specs.declared.verdict.Reason.{Reason}
 use Rattle.cert_checker.specs.declared.verdict.Reason.TheVariants.{TooBig}

@@ -8,7 +8,7 @@ use Rattle.tour_reader.specs.Tour.{tour_of}
 use Rattle.duty_log.specs.declared.fault.LogFault.{LogFault}
 use Rattle.duty_log.specs.declared.read.TheConstants.{LOG_LIMIT}
 use Rattle.duty_log.specs.Log.{ReadsLog}
-use Rattle.cert_text.specs.declared.limits.TheConstants.{CERT_LIMIT}
+use Rattle.cert_text.specs.declared.text.limits.TheConstants.{CERT_LIMIT}
 use Rattle.outside.specs.Outside.{Bytes, Files, start_of}
 
 -- The file of that name begins with these bytes, which are all that it has or so many. Where the desk does not tell its files, nothing is said.

@@ -14,8 +14,8 @@ use Rattle.label_state.specs.Laws.LayerLaws.{label_kept, place_of_one, place_tak
 use Rattle.label_state.specs.Buckets.{places_of}
 use Rattle.label_state.specs.Laws.Buckets.{ArePlaces}
 use Rattle.label_state.specs.Laws.BucketLaws.{are_places}
-use Rattle.cert_text.specs.Problem.{Problem, later, is_better}
-use Rattle.cert_text.specs.Cover.{NoneCovers}
+use Rattle.cert_text.specs.CoverLists.Problem.{Problem, later, is_better}
+use Rattle.cert_text.specs.CoverLists.Cover.{NoneCovers}
 use Rattle.label_dominance.specs.Offers.{IsFirstCover}
 
 -- the label of an entry as a loop reads it

@@ -4,8 +4,8 @@ use Rattle.rule_core.specs.Reach.{IsOneOf}
 use Rattle.tour_model.specs.declared.label.Label.{Label}
 use Rattle.label_state.specs.declared.kept.Kept.{Kept}
 use Rattle.label_state.specs.Layers.{last_step, last_layer, with_kept, labels_of}
-use Rattle.cert_text.specs.Problem.{Problem, is_better}
-use Rattle.cert_text.specs.Cover.{NoneCovers}
+use Rattle.cert_text.specs.CoverLists.Problem.{Problem, is_better}
+use Rattle.cert_text.specs.CoverLists.Cover.{NoneCovers}
 use Rattle.label_dominance.specs.declared.dominance.Offered.{Offered}
 use Rattle.label_dominance.specs.declared.dominance.Offered.TheVariants as offered
 

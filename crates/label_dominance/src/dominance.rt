@@ -7,10 +7,10 @@ ghost use Rattle.tour_model.specs.Word.{word_length};
 ghost use Rattle.label_state.specs.declared.layers.TheConstants.{LAYER_LIMIT};
 ghost use Rattle.label_state.specs.Buckets.{places_of};
 ghost use Rattle.label_state.specs.Layers.{last_step, last_layer, label_count, labels_of};
-ghost use Rattle.cert_text.specs.Problem.{is_better, later};
-ghost use Rattle.cert_text.specs.Planning.{problem_of, minute_of, state_at};
-ghost use Rattle.cert_text.specs.Cover.{IsLabelAt};
-ghost use Rattle.cert_text.specs.Continuation.{AnswersContinuations};
+ghost use Rattle.cert_text.specs.CoverLists.Problem.{is_better, later};
+ghost use Rattle.cert_text.specs.CoverLists.Planning.{problem_of, minute_of, state_at};
+ghost use Rattle.cert_text.specs.CoverLists.Cover.{IsLabelAt};
+ghost use Rattle.cert_text.specs.CoverLists.Continuation.{AnswersContinuations};
 ghost use Rattle.label_dominance.specs.Offers.{AreStatesAt, IsCoverSought, IsOffered};
 
 use cert_text::minute_at;

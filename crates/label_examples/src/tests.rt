@@ -1,7 +1,7 @@
 //! One tour by hand: four hours of driving, and then an hour of service.
 ghost use Rattle.std.specs.Prelude.{◌≡◌, IfOk, IfSome};
 ghost use Rattle.tour_model.specs.Tour.{IsTour, IsParams};
-ghost use Rattle.cert_text.specs.Planning.{minute_of};
+ghost use Rattle.cert_text.specs.CoverLists.Planning.{minute_of};
 
 use duty_core::{Activity, NoMemory, Params};
 use label_dominance::{Offered, better, offer};

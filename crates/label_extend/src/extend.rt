@@ -6,9 +6,9 @@ ghost use Rattle.tour_model.specs.declared.limits.TheConstants.{STEP_LIMIT};
 ghost use Rattle.tour_model.specs.Tour.{IsTour};
 ghost use Rattle.tour_model.specs.Word.{word_length};
 ghost use Rattle.tour_model.specs.Schedule.{step_units};
-ghost use Rattle.cert_text.specs.Problem.{grow, grown_by, successors_of};
-ghost use Rattle.cert_text.specs.Planning.{problem_of, minute_of, state_at};
-ghost use Rattle.cert_text.specs.Cover.{IsLabelAt};
+ghost use Rattle.cert_text.specs.CoverLists.Problem.{grow, grown_by, successors_of};
+ghost use Rattle.cert_text.specs.CoverLists.Planning.{problem_of, minute_of, state_at};
+ghost use Rattle.cert_text.specs.CoverLists.Cover.{IsLabelAt};
 ghost use Rattle.label_extend.specs.Growths.{AreGrownAt};
 
 use crate::growths::Growths;

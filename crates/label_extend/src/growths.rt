@@ -14,7 +14,7 @@ pub struct Growths<S> {
 
 impl<S> Model for Growths<S> {
     ghost use Rattle.std.specs.Prelude.{List};
-    ghost use Rattle.cert_text.specs.declared.grown.Grown.{Grown};
+    ghost use Rattle.cert_text.specs.declared.cover_lists.grown.Grown.{Grown};
 
     ghost Value = { List (Grown S) };
 

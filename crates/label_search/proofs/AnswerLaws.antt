@@ -15,15 +15,15 @@ use Rattle.tour_model.specs.Tour.{IsTour}
 use Rattle.tour_model.specs.Word.{word_length}
 use Rattle.tour_model.specs.Layer.{layer_at}
 use Rattle.tour_model.specs.Schedule.{log_start, duration, IsSolutionWith}
-use Rattle.cert_text.specs.Problem.{Problem, root_label}
-use Rattle.cert_text.specs.Planning.{minute_of, state_at, problem_of, IsLogState}
-use Rattle.cert_text.specs.Cover.{IsCovered, IsAtLeast, taken, IsCoverList}
-use Rattle.cert_text.specs.Continuation.{takes}
-use Rattle.cert_text.specs.Laws.ProblemLaws.{IsProblem}
-use Rattle.cert_text.specs.Laws.BetterLaws.{better_from, better_on}
-use Rattle.cert_text.specs.Laws.CoverLaws.{pruned_more, departed_from, no_shorter}
-use Rattle.cert_text.specs.Laws.ProblemOf.{problem_laws}
-use Rattle.cert_text.specs.Laws.SolutionLaws.{log_ends, log_state, solution_by, way_solves_with, no_solution, solution_shortest}
+use Rattle.cert_text.specs.CoverLists.Problem.{Problem, root_label}
+use Rattle.cert_text.specs.CoverLists.Planning.{minute_of, state_at, problem_of, IsLogState}
+use Rattle.cert_text.specs.CoverLists.Cover.{IsCovered, IsAtLeast, taken, IsCoverList}
+use Rattle.cert_text.specs.CoverLists.Continuation.{takes}
+use Rattle.cert_text.specs.CoverLists.Laws.ProblemLaws.{IsProblem}
+use Rattle.cert_text.specs.CoverLists.Laws.BetterLaws.{better_from, better_on}
+use Rattle.cert_text.specs.CoverLists.Laws.CoverLaws.{pruned_more, departed_from, no_shorter}
+use Rattle.cert_text.specs.CoverLists.Laws.ProblemOf.{problem_laws}
+use Rattle.cert_text.specs.CoverLists.Laws.SolutionLaws.{log_ends, log_state, solution_by, way_solves_with, no_solution, solution_shortest}
 use Rattle.label_state.specs.declared.kept.Kept.{Kept}
 use Rattle.label_state.specs.declared.kept.Place.{Place}
 use Rattle.label_state.specs.Layers.{labels_of, label_layers, label_count}

@@ -10,7 +10,7 @@ use Rattle.tour_model.specs.declared.label.Label.{Label}
 use Rattle.label_state.specs.declared.kept.Kept.{Kept}
 use Rattle.label_state.specs.declared.kept.Place.{Place}
 use Rattle.label_search.specs.declared.best.Best.{Best}
-use Rattle.cert_text.specs.Cover.{IsAtLeast, taken}
+use Rattle.cert_text.specs.CoverLists.Cover.{IsAtLeast, taken}
 use Rattle.label_search.specs.Searching.{IsBestOf, IsBestWith, is_below}
 
 -- the best of the labels up to a place of the layer

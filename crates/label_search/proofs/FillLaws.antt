@@ -8,8 +8,8 @@ use Rattle.tour_model.specs.declared.label.Label.{Label}
 use Rattle.label_state.specs.declared.kept.Kept.{Kept}
 use Rattle.label_state.specs.Layers.{labels_of, label_count, last_step, last_layer, with_kept}
 use Rattle.label_state.specs.Laws.LayerLaws.{one_of_labels, layer_new, count_pushed}
-use Rattle.cert_text.specs.Problem.{Problem, later, is_better}
-use Rattle.cert_text.specs.Cover.{IsCovered, NoneCovers, NoneIsBetter}
+use Rattle.cert_text.specs.CoverLists.Problem.{Problem, later, is_better}
+use Rattle.cert_text.specs.CoverLists.Cover.{IsCovered, NoneCovers, NoneIsBetter}
 use Rattle.label_dominance.specs.Offers.{IsFirstCover, IsOffered}
 use Rattle.label_dominance.specs.declared.dominance.Offered.{Offered}
 use Rattle.label_dominance.specs.declared.dominance.Offered.TheVariants as offered

@@ -12,12 +12,12 @@ use Rattle.rule_core.specs.Reach.{IsOneOf}
 use Rattle.rule_core.specs.Laws.OneOf.{one_of-append, one_of-append_left, one_of-append_right}
 use Rattle.tour_model.specs.declared.label.Label.{Label}
 use Rattle.tour_model.specs.declared.limits.TheConstants.{STEP_LIMIT}
-use Rattle.cert_text.specs.declared.grown.Grown.{Grown}
+use Rattle.cert_text.specs.declared.cover_lists.grown.Grown.{Grown}
 use Rattle.label_state.specs.declared.kept.Kept.{Kept}
 use Rattle.label_state.specs.Layers.{labels_of}
 use Rattle.label_state.specs.Laws.LayerLaws.{one_of_labels, label_kept}
-use Rattle.cert_text.specs.Problem.{Problem, root_label, successors_of, later, HasBound}
-use Rattle.cert_text.specs.Cover.{IsPrunedAt, IsPruned, IsLabelAt}
+use Rattle.cert_text.specs.CoverLists.Problem.{Problem, root_label, successors_of, later, HasBound}
+use Rattle.cert_text.specs.CoverLists.Cover.{IsPrunedAt, IsPruned, IsLabelAt}
 use Rattle.label_extend.specs.Growths.{AreGrownAt}
 use Rattle.label_search.specs.Sound.{IsFirst, parents_of, GrewFrom, AreOrdered}
 use Rattle.label_search.specs.Searching.{AreLabelsAt, AreSmall, IsGathered, Gathers, AreGathered, AreFirst}

@@ -7,12 +7,12 @@ use Rattle.duty_core.specs.declared.activity.Activity.{Activity}
 use Rattle.rule_core.specs.Reach.{IsOneOf}
 use Rattle.rule_core.specs.Laws.OneOf.{one_of-append, one_of-append_left, one_of-append_right}
 use Rattle.tour_model.specs.declared.label.Label.{Label}
-use Rattle.cert_text.specs.declared.grown.Grown.{Grown}
-use Rattle.cert_text.specs.Problem.{Problem, root_label, successors_of, HasBound}
-use Rattle.cert_text.specs.Cover.{IsLabelAt, taken}
-use Rattle.cert_text.specs.Continuation.{takes}
-use Rattle.cert_text.specs.Laws.ProblemLaws.{IsProblem}
-use Rattle.cert_text.specs.Laws.CoverLaws.{departed_from}
+use Rattle.cert_text.specs.declared.cover_lists.grown.Grown.{Grown}
+use Rattle.cert_text.specs.CoverLists.Problem.{Problem, root_label, successors_of, HasBound}
+use Rattle.cert_text.specs.CoverLists.Cover.{IsLabelAt, taken}
+use Rattle.cert_text.specs.CoverLists.Continuation.{takes}
+use Rattle.cert_text.specs.CoverLists.Laws.ProblemLaws.{IsProblem}
+use Rattle.cert_text.specs.CoverLists.Laws.CoverLaws.{departed_from}
 use Rattle.label_search.specs.declared.guess.Ranked.{Ranked}
 use Rattle.label_search.specs.Searching.{IsSolved, IsLimit}
 use Rattle.label_search.specs.Ways.{IsWay, IsReached, AreReached, AreRankedReached, IsGuess, IsLessOf, IsLeastOf, ArePartsOf}

@@ -7,7 +7,7 @@ use Rattle.rule_core.specs.Reach.{IsOneOf}
 use Rattle.rule_core.specs.Laws.OneOf.{one_of-append, one_of-get_or}
 use Rattle.tour_model.specs.declared.limits.TheConstants.{STEP_LIMIT}
 use Rattle.label_state.specs.declared.kept.Kept.{Kept}
-use Rattle.cert_text.specs.Problem.{later}
+use Rattle.cert_text.specs.CoverLists.Problem.{later}
 use Rattle.label_search.specs.Sound.{StandsBefore, AreOrdered}
 use Rattle.label_search.specs.Searching.{AreSmall, rank_of, depart_rank, progress_rank}
 use Rattle.label_state.specs.Laws.LayerLaws.{place_of_one}

@@ -7,10 +7,10 @@ use Rattle.std.proofs.lemmas.List.{nil_from_length}
 use Rattle.rule_core.specs.declared.roots.Root.{Root}
 use Rattle.rule_core.specs.Reach.{IsOneOf}
 use Rattle.tour_model.specs.Layer.{layer_at}
-use Rattle.cert_text.specs.declared.grown.Grown.{Grown}
-use Rattle.cert_text.specs.Problem.{Problem, root_label, successors_of}
-use Rattle.cert_text.specs.Cover.{IsCovered, NoneIsBetter, IsAtLeast, taken, IsPruned, IsLabelAt, IsCoverList}
-use Rattle.cert_text.specs.Laws.CoverLaws.{at_least_more, pruned_more}
+use Rattle.cert_text.specs.declared.cover_lists.grown.Grown.{Grown}
+use Rattle.cert_text.specs.CoverLists.Problem.{Problem, root_label, successors_of}
+use Rattle.cert_text.specs.CoverLists.Cover.{IsCovered, NoneIsBetter, IsAtLeast, taken, IsPruned, IsLabelAt, IsCoverList}
+use Rattle.cert_text.specs.CoverLists.Laws.CoverLaws.{at_least_more, pruned_more}
 use Rattle.label_state.specs.declared.kept.Kept.{Kept}
 use Rattle.label_state.specs.declared.kept.Place.{Place}
 use Rattle.label_state.specs.Layers.{labels_of, label_layers, label_count}

@@ -12,12 +12,12 @@ use Rattle.tour_model.specs.declared.label.Label.{Label}
 use Rattle.tour_model.specs.Layer.{layer_at}
 use Rattle.tour_model.specs.Way.{done, done_after}
 use Rattle.tour_model.specs.Schedule.{depart_from}
-use Rattle.cert_text.specs.declared.grown.Grown.{Grown}
-use Rattle.cert_text.specs.Problem.{Problem, root_label, departed, successors_of, is_better, HasBound}
-use Rattle.cert_text.specs.Cover.{NoneIsBetter}
-use Rattle.cert_text.specs.Continuation.{IsAllowedFrom}
-use Rattle.cert_text.specs.Laws.ProblemLaws.{IsProblem}
-use Rattle.cert_text.specs.Laws.BetterLaws.{grown_from, better_itself}
+use Rattle.cert_text.specs.declared.cover_lists.grown.Grown.{Grown}
+use Rattle.cert_text.specs.CoverLists.Problem.{Problem, root_label, departed, successors_of, is_better, HasBound}
+use Rattle.cert_text.specs.CoverLists.Cover.{NoneIsBetter}
+use Rattle.cert_text.specs.CoverLists.Continuation.{IsAllowedFrom}
+use Rattle.cert_text.specs.CoverLists.Laws.ProblemLaws.{IsProblem}
+use Rattle.cert_text.specs.CoverLists.Laws.BetterLaws.{grown_from, better_itself}
 use Rattle.label_state.specs.declared.kept.Kept.{Kept}
 use Rattle.label_state.specs.Layers.{labels_of, label_layers, label_count}
 use Rattle.label_state.specs.Laws.LayerLaws.{layer_labels, label_kept, place_of_one}

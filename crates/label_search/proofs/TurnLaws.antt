@@ -8,8 +8,8 @@ use Rattle.std.proofs.lemmas.List.Kept.{AllPairs-from_increasing}
 use Rattle.rule_core.specs.declared.roots.Root.{Root}
 use Rattle.rule_core.specs.Reach.{IsOneOf}
 use Rattle.rule_core.specs.Laws.OneOf.{one_of-append, one_of-append_left, one_of-append_right, one_of-get_or, one_of-map, one_of_map}
-use Rattle.cert_text.specs.Problem.{Problem, root_label, is_better}
-use Rattle.cert_text.specs.Cover.{IsCovered}
+use Rattle.cert_text.specs.CoverLists.Problem.{Problem, root_label, is_better}
+use Rattle.cert_text.specs.CoverLists.Cover.{IsCovered}
 use Rattle.label_state.specs.declared.kept.Kept.{Kept}
 use Rattle.label_state.specs.Layers.{labels_of}
 use Rattle.label_state.specs.Laws.LayerLaws.{label_kept, place_of_one}

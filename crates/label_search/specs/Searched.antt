@@ -11,8 +11,8 @@ use Rattle.label_search.specs.declared.by_layers.Searched.TheVariants.{Found, Ne
 use Rattle.tour_model.specs.Layer.{layer_at}
 use Rattle.label_state.specs.Layers.{label_layers, label_count}
 use Rattle.label_state.specs.Path.{path_of, path_marks}
-use Rattle.cert_text.specs.Problem.{Problem}
-use Rattle.cert_text.specs.Cover.{taken, IsCoverList}
+use Rattle.cert_text.specs.CoverLists.Problem.{Problem}
+use Rattle.cert_text.specs.CoverLists.Cover.{taken, IsCoverList}
 use Rattle.label_search.specs.Sound.{IsWorked, HasLabels}
 
 -- Some solution of the tour after the log takes no more steps than so many.

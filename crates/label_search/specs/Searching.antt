@@ -6,17 +6,17 @@ use Rattle.rule_core.specs.declared.roots.Root.{Root}
 use Rattle.rule_core.specs.Reach.{IsOneOf}
 use Rattle.tour_model.specs.declared.label.Label.{Label}
 use Rattle.tour_model.specs.declared.limits.TheConstants.{STEP_LIMIT}
-use Rattle.cert_text.specs.declared.grown.Grown.{Grown}
+use Rattle.cert_text.specs.declared.cover_lists.grown.Grown.{Grown}
 use Rattle.label_state.specs.declared.kept.Kept.{Kept}
 use Rattle.label_state.specs.declared.kept.Place.{Place}
 use Rattle.label_search.specs.declared.best.Best.{Best}
 use Rattle.label_search.specs.declared.by_layers.Searched.{Searched}
 use Rattle.label_search.specs.declared.by_layers.Searched.TheVariants.{Found, Never}
 use Rattle.label_state.specs.Layers.{labels_of, label_count}
-use Rattle.cert_text.specs.Problem.{Problem, root_label, successors_of}
-use Rattle.cert_text.specs.Cover.{IsCovered, NoneIsBetter, IsAtLeast, taken, IsPruned, IsLabelAt}
+use Rattle.cert_text.specs.CoverLists.Problem.{Problem, root_label, successors_of}
+use Rattle.cert_text.specs.CoverLists.Cover.{IsCovered, NoneIsBetter, IsAtLeast, taken, IsPruned, IsLabelAt}
 use Rattle.label_search.specs.Sound.{IsFirst, parents_of, IsCoveredBefore, IsFullBefore, GrewFrom, AreOrdered}
-use Rattle.cert_text.specs.Continuation.{Continues, takes}
+use Rattle.cert_text.specs.CoverLists.Continuation.{Continues, takes}
 
 -- The state is that of a root.
 abbrev pub IsRootState : {S : Type 0} → List (Root S) → S → Type 0

@@ -5,12 +5,12 @@ use Rattle.duty_core.specs.declared.activity.Activity.TheVariants.{Off}
 use Rattle.rule_core.specs.declared.roots.Root.{Root}
 use Rattle.rule_core.specs.Reach.{IsOneOf}
 use Rattle.tour_model.specs.declared.label.Label.{Label}
-use Rattle.cert_text.specs.declared.grown.Grown.{Grown}
+use Rattle.cert_text.specs.declared.cover_lists.grown.Grown.{Grown}
 use Rattle.label_state.specs.declared.kept.Kept.{Kept}
 use Rattle.tour_model.specs.Layer.{layer_at}
 use Rattle.label_state.specs.Layers.{labels_of, label_count}
-use Rattle.cert_text.specs.Problem.{Problem, root_label, successors_of, is_better, later, HasBound}
-use Rattle.cert_text.specs.Cover.{IsCovered, NoneIsBetter, taken, IsPrunedBy, IsPruned}
+use Rattle.cert_text.specs.CoverLists.Problem.{Problem, root_label, successors_of, is_better, later, HasBound}
+use Rattle.cert_text.specs.CoverLists.Cover.{IsCovered, NoneIsBetter, taken, IsPrunedBy, IsPruned}
 
 -- The label of the first layer is that of the root at the place of its parent; its activity is `Off`, and it has no mark.
 pub record IsFirst {S : Type 0} (roots : List (Root S)) (k : Kept S) : Type 0 where

@@ -6,9 +6,9 @@ use Rattle.rule_core.specs.Reach.{IsOneOf, Reaches}
 use Rattle.tour_model.specs.declared.label.Label.{Label}
 use Rattle.tour_model.specs.Way.{done_after}
 use Rattle.tour_model.specs.Schedule.{depart_from}
-use Rattle.cert_text.specs.Problem.{Problem}
-use Rattle.cert_text.specs.Cover.{IsLabelAt, taken}
-use Rattle.cert_text.specs.Continuation.{IsAllowedFrom}
+use Rattle.cert_text.specs.CoverLists.Problem.{Problem}
+use Rattle.cert_text.specs.CoverLists.Cover.{IsLabelAt, taken}
+use Rattle.cert_text.specs.CoverLists.Continuation.{IsAllowedFrom}
 use Rattle.label_search.specs.Sound.{IsReachable}
 use Rattle.label_search.specs.Searching.{IsSolved}
 use Rattle.label_search.specs.declared.guess.Ranked.{Ranked}

@@ -7,11 +7,11 @@ ghost use Rattle.rule_core.specs.Replay.{AreRootStates, AreRootsOf};
 ghost use Rattle.tour_model.specs.Layer.{layer_at};
 ghost use Rattle.tour_model.specs.Schedule.{log_start};
 ghost use Rattle.tour_model.specs.Tour.{IsTour};
-ghost use Rattle.cert_text.specs.Planning.{problem_of, state_at, IsLogState};
+ghost use Rattle.cert_text.specs.CoverLists.Planning.{problem_of, state_at, IsLogState};
 ghost use Rattle.label_search.specs.Sound.{IsFirstLayer, IsSound};
 ghost use Rattle.label_search.specs.Searched.{layers_of, IsAnswer, IsWithin};
 ghost use Rattle.label_search.specs.Searching.{ended_by};
-ghost use Rattle.label_search.specs.declared.by_layers.TheConstants.{MOST_BUDGET};
+ghost use Rattle.cert_text.specs.declared.text.limits.TheConstants.{MOST_LABELS};
 
 use crate::best::{Best, best_of};
 use crate::fill::add_layer;
@@ -22,9 +22,6 @@ use label_state::{Layers, Place};
 use rule_core::{Root, RuleBook};
 use std::alloc::Global;
 use tour_model::Tour;
-
-/// The greatest budget of labels.
-pub const MOST_BUDGET: u32 = 500_000;
 
 /// What a search found.
 #[derive(Drop)]
@@ -72,7 +69,7 @@ pub fn search<B: RuleBook>(
     requires roots { AreRootStates (B.machine book.now) tour.now.start roots.now }
     requires few { length roots.now < 2 ^ 32 }
     requires some { 1 ≤ budget }
-    requires most { budget ≤ MOST_BUDGET }
+    requires most { budget ≤ MOST_LABELS }
     ensures sound { IfOk result (λ s. IsSound (problem_of tour.now (B.machine book.now)) roots.now (layers_of s)) }
     ensures first { IfOk result (λ s. IsFirstLayer (problem_of tour.now (B.machine book.now)) roots.now budget (layer_at (layers_of s) 0)) }
     ensures within { IfOk result (IsWithin budget) }

@@ -4,7 +4,7 @@ ghost use Rattle.tour_model.specs.Tour.{IsTour};
 ghost use Rattle.tour_model.specs.Word.{word_length};
 ghost use Rattle.label_state.specs.declared.layers.TheConstants.{LAYER_LIMIT};
 ghost use Rattle.label_state.specs.Layers.{label_count};
-ghost use Rattle.cert_text.specs.Planning.{problem_of, state_at};
+ghost use Rattle.cert_text.specs.CoverLists.Planning.{problem_of, state_at};
 ghost use Rattle.label_search.specs.Sound.{AreOrdered};
 ghost use Rattle.label_search.specs.Searching.{AreLabelsAt, AddsLayer};
 

@@ -5,9 +5,9 @@ ghost use Rattle.tour_model.specs.declared.limits.TheConstants.{STEP_LIMIT};
 ghost use Rattle.tour_model.specs.Tour.{IsTour};
 ghost use Rattle.tour_model.specs.Word.{word_length};
 ghost use Rattle.label_state.specs.declared.layers.TheConstants.{LAYER_LIMIT};
-ghost use Rattle.cert_text.specs.Problem.{successors_of};
-ghost use Rattle.cert_text.specs.Planning.{problem_of, state_at};
-ghost use Rattle.cert_text.specs.Cover.{IsLabelAt};
+ghost use Rattle.cert_text.specs.CoverLists.Problem.{successors_of};
+ghost use Rattle.cert_text.specs.CoverLists.Planning.{problem_of, state_at};
+ghost use Rattle.cert_text.specs.CoverLists.Cover.{IsLabelAt};
 ghost use Rattle.label_search.specs.Sound.{AreOrdered};
 ghost use Rattle.label_search.specs.Searching.{AreLabelsAt, Gathers, AreGathered, AreFirst};
 

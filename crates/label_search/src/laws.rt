@@ -10,7 +10,7 @@ ghost use Rattle.tour_model.specs.Word.{word_length};
 ghost use Rattle.tour_model.specs.Schedule.{log_start, IsSolutionWith};
 ghost use Rattle.label_state.specs.declared.kept.Kept.{Kept};
 ghost use Rattle.label_state.specs.Path.{kept_at, path_of, path_marks};
-ghost use Rattle.cert_text.specs.Planning.{problem_of};
+ghost use Rattle.cert_text.specs.CoverLists.Planning.{problem_of};
 ghost use Rattle.label_search.specs.Sound.{IsSound};
 
 use rule_core::RuleBook;

@@ -9,6 +9,6 @@ mod guess;
 mod laws;
 mod order;
 
-pub use by_layers::{MOST_BUDGET, Searched, search};
+pub use by_layers::{Searched, search};
 pub use label_state::{Kept, Label, Layers, Place};
 pub use laws::paths_are_lawful;

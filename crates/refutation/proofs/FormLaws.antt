@@ -30,10 +30,10 @@ use Rattle.cert_text.specs.declared.cert.CertKind.TheVariants.{Shortest}
 use Rattle.cert_text.specs.declared.cert.CertLabel.{CertLabel}
 use Rattle.cert_text.specs.declared.cert.StepRun.{StepRun}
 use Rattle.cert_text.specs.Cert.{acts_of_runs, IsLabelOf, AreLabelsOf, AreLayersOf}
-use Rattle.cert_text.specs.Cover.{IsLabelAt}
-use Rattle.cert_text.specs.Form.{AreMarkForms, IsLabelForm, IsLayerForm, IsClaimForm, IsCertForm}
-use Rattle.cert_text.specs.Planning.{minute_of, state_at}
-use Rattle.cert_text.specs.Laws.ProblemOf.{word_few}
+use Rattle.cert_text.specs.CoverLists.Cover.{IsLabelAt}
+use Rattle.cert_text.specs.Text.Form.{AreMarkForms, IsLabelForm, IsLayerForm, IsClaimForm, IsCertForm}
+use Rattle.cert_text.specs.CoverLists.Planning.{minute_of, state_at}
+use Rattle.cert_text.specs.CoverLists.Laws.ProblemOf.{word_few}
 use Rattle.refutation.specs.Refutes.{Tells, IsSolved}
 use Rattle.refutation.specs.Runs.{AreMaximal}
 use Rattle.refutation.proofs.MarksLaws.{lawful_marks}

@@ -7,7 +7,7 @@ use Rattle.tour_model.specs.declared.tour.Tour.{Tour}
 use Rattle.label_state.specs.declared.kept.Kept.{Kept}
 use Rattle.label_state.specs.Layers.{labels_of, label_layers}
 use Rattle.cert_text.specs.declared.cert.CertLabel.{CertLabel}
-use Rattle.cert_text.specs.Planning.{minute_of}
+use Rattle.cert_text.specs.CoverLists.Planning.{minute_of}
 use Rattle.cert_text.specs.Cert.{IsLabelOf, AreLabelsOf, AreLayersOf}
 
 -- one label more

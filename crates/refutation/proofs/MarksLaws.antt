@@ -14,8 +14,8 @@ use Rattle.duty_core.specs.Laws.MarkListLaws.{contains_head, contains_after}
 use Rattle.duty_core.specs.Laws.MarkMinuteLaws.{StandsBetween, lawful_marks_stand}
 use Rattle.civil_minutes.specs.declared.century.TheConstants.{MINUTES_OF_CENTURY}
 use Rattle.rule_core.specs.declared.numbers.TheConstants.{NUMBER_LIMIT}
-use Rattle.cert_text.specs.Form.{AreMarkForms}
-use Rattle.cert_text.specs.Laws.MarkTextLaws.{one_minute}
+use Rattle.cert_text.specs.Text.Form.{AreMarkForms}
+use Rattle.cert_text.specs.Text.Laws.MarkTextLaws.{one_minute}
 
 -- marks in order at minutes before hi, each of which stands from `least` on
 forms_of : (params : Params) (lo hi least : ℕ) (marks : List Mark) → hi ≤ MINUTES_OF_CENTURY → AreInOrder params marks → ((m : Mark) → Contains marks m → StandsBetween params lo hi m) → ((m : Mark) (at : ℕ) → Contains marks m → pos at ≡ mark_minute params m → least ≤ at) → AreMarkForms params least marks

@@ -6,7 +6,7 @@ use Rattle.duty_core.specs.declared.activity.Activity.{Activity}
 use Rattle.rule_core.specs.declared.numbers.TheConstants.{NUMBER_LIMIT}
 use Rattle.cert_text.specs.declared.cert.StepRun.{StepRun}
 use Rattle.cert_text.specs.Cert.{acts_of_runs}
-use Rattle.cert_text.specs.Form.{AreRunForms}
+use Rattle.cert_text.specs.Text.Form.{AreRunForms}
 use Rattle.refutation.specs.Runs.{AreMaximal, AreSoFar}
 
 -- a run more, of another activity than the last one

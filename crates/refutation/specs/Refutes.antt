@@ -12,8 +12,8 @@ use Rattle.tour_model.specs.Schedule.{duration, IsSolutionWith}
 use Rattle.cert_text.specs.declared.cert.Cert.{Cert}
 use Rattle.cert_text.specs.declared.cert.CertKind.{CertKind}
 use Rattle.cert_text.specs.declared.cert.CertKind.TheVariants.{Shortest, Infeasible}
-use Rattle.cert_text.specs.Planning.{problem_of, state_at, IsLogState}
-use Rattle.cert_text.specs.Cover.{IsCoverList}
+use Rattle.cert_text.specs.CoverLists.Planning.{problem_of, state_at, IsLogState}
+use Rattle.cert_text.specs.CoverLists.Cover.{IsCoverList}
 use Rattle.cert_text.specs.Cert.{acts_of_runs, AreLayersOf}
 
 -- The layers prove the answer after the log: this schedule, with its marks, is a solution, and none is shorter; or there is none.

@@ -10,11 +10,11 @@ ghost use Rattle.tour_model.specs.Schedule.{duration};
 ghost use Rattle.tour_model.specs.Tour.{IsTour};
 ghost use Rattle.tour_model.specs.Word.{word_length};
 ghost use Rattle.label_state.specs.Layers.{label_layers, label_count};
-ghost use Rattle.cert_text.specs.Planning.{state_at};
-ghost use Rattle.cert_text.specs.Cover.{IsLabelAt};
+ghost use Rattle.cert_text.specs.CoverLists.Planning.{state_at};
+ghost use Rattle.cert_text.specs.CoverLists.Cover.{IsLabelAt};
 ghost use Rattle.cert_text.specs.declared.cert.CertKind.TheVariants.{Shortest, Infeasible};
 ghost use Rattle.cert_text.specs.Cert.{IsValidCert, acts_of_runs};
-ghost use Rattle.cert_text.specs.Form.{IsCertForm};
+ghost use Rattle.cert_text.specs.Text.Form.{IsCertForm};
 ghost use Rattle.refutation.specs.Refutes.{ProveAnswer, Tells, IsSolved, steps_of};
 ghost use Rattle.refutation.specs.Runs.{AreMaximal};
 

@@ -7,7 +7,7 @@ ghost use Rattle.tour_model.specs.Tour.{IsTour};
 ghost use Rattle.label_state.specs.declared.layers.TheConstants.{LAYER_LIMIT};
 ghost use Rattle.label_state.specs.Layers.{labels_of, label_layers};
 ghost use Rattle.cert_text.specs.Cert.{IsLabelOf, AreLabelsOf, AreLayersOf};
-ghost use Rattle.cert_text.specs.Planning.{minute_of};
+ghost use Rattle.cert_text.specs.CoverLists.Planning.{minute_of};
 
 use cert_text::{CertLabel, CertLabels, CertLayers, minute_at};
 use duty_core::{Minute, NoMemory};

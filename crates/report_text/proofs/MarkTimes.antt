@@ -10,7 +10,7 @@ use Rattle.duty_core.specs.Params.{AreGoodParams}
 use Rattle.duty_core.specs.Lawful.{IsLawfulWith}
 use Rattle.duty_core.specs.Laws.MarkMinuteLaws.{StandsBetween, lawful_marks_stand}
 use Rattle.civil_minutes.specs.declared.century.TheConstants.{MINUTES_OF_CENTURY}
-use Rattle.cert_text.specs.Form.{IsMarkForm}
+use Rattle.cert_text.specs.Text.Form.{IsMarkForm}
 
 -- a mark that stands before the year 2100
 in_century : (params : Params) (lo hi : ℕ) (mark : Mark) → hi ≤ MINUTES_OF_CENTURY → StandsBetween params lo hi mark → IsMarkForm params 0 mark

@@ -14,7 +14,7 @@ use Rattle.duty_core.specs.declared.rule.Rule.{Rule}
 use Rattle.duty_core.specs.Params.{unit_minutes, BeginsUnit}
 use Rattle.rule_readings.specs.declared.reading.Reading.{Reading}
 use Rattle.rule_readings.specs.Readings.{AreTimedBefore}
-use Rattle.cert_text.specs.Form.{IsMarkForm}
+use Rattle.cert_text.specs.Text.Form.{IsMarkForm}
 use Rattle.tour_model.specs.declared.limits.TheConstants.{LONGEST_TOUR, LATEST_START}
 use Rattle.tour_model.specs.declared.tour.Tour.{Tour}
 use Rattle.tour_model.specs.Tour.{IsTour}

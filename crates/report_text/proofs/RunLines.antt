@@ -19,7 +19,7 @@ use Rattle.tour_model.specs.Laws.LengthLaws.{tour_grid_some}
 use Rattle.report_text.specs.declared.runs.Doing.{Doing}
 use Rattle.text_parts.specs.Parts.{Part, Puts}
 use Rattle.text_parts.specs.Laws.PartLaws.{puts_on}
-use Rattle.cert_text.specs.Reading.{same_act}
+use Rattle.cert_text.specs.Text.Reading.{same_act}
 use Rattle.report_text.specs.Report.{same_stop, same, Run, runs_with, runs_of, doing_at, doings, minute_of, run_line, run_lines, mark_line, mark_lines, reading_line, reading_lines}
 
 -- ---- what steps do the same

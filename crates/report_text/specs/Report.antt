@@ -8,7 +8,7 @@ use Rattle.duty_core.specs.declared.rule.Rule.{Rule}
 use Rattle.duty_core.specs.Marks.{mark_minute}
 use Rattle.duty_core.specs.RuleNames.{rule_name}
 use Rattle.std.specs.Fmt.{decimal}
-use Rattle.cert_text.specs.Reading.{same_act}
+use Rattle.cert_text.specs.Text.Reading.{same_act}
 use Rattle.tour_model.specs.declared.piece.Piece.{Piece}
 use Rattle.tour_model.specs.declared.piece.Piece.TheVariants as piece
 use Rattle.tour_model.specs.declared.schedule.Schedule.{Schedule}
@@ -21,7 +21,7 @@ use Rattle.log_graph.specs.Graph.{graph_lines}
 use Rattle.tour_model.specs.Way.{progresses, done}
 use Rattle.tour_model.specs.Word.{next_piece}
 use Rattle.report_text.specs.declared.runs.Doing.{Doing}
-use Rattle.cert_text.specs.Spelling.{mark_word}
+use Rattle.cert_text.specs.Text.Spelling.{mark_word}
 use Rattle.text_parts.specs.Parts.{Part, Said, Time, IsText, clock_text}
 
 -- ---- what each step does

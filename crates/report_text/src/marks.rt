@@ -3,8 +3,8 @@ ghost use Rattle.std.specs.Prelude.{◌≡◌, ◌<◌, nat_abs, All, OnOk};
 ghost use Rattle.civil_minutes.specs.declared.century.TheConstants.{MINUTES_OF_CENTURY};
 ghost use Rattle.duty_core.specs.Marks.{mark_minute};
 ghost use Rattle.duty_core.specs.Params.{AreGoodParams};
-ghost use Rattle.cert_text.specs.Form.{IsMarkForm};
-ghost use Rattle.cert_text.specs.Spelling.{mark_word};
+ghost use Rattle.cert_text.specs.Text.Form.{IsMarkForm};
+ghost use Rattle.cert_text.specs.Text.Spelling.{mark_word};
 ghost use Rattle.text_parts.specs.Parts.{Puts};
 ghost use Rattle.report_text.specs.Report.{mark_line, mark_lines};
 

@@ -1,6 +1,6 @@
 //! The report of a tour whose schedule is worked out by hand, and made tours by hand.
 ghost use Rattle.std.specs.Prelude.{◌≡◌, false, All, IfOk};
-ghost use Rattle.cert_text.specs.Form.{IsMarkForm};
+ghost use Rattle.cert_text.specs.Text.Form.{IsMarkForm};
 ghost use Rattle.duty_core.specs.declared.params.Params.TheVariants.{Canada};
 ghost use Rattle.duty_core.specs.declared.params.RestWay.TheVariants.{Defer};
 ghost use Rattle.tour_model.specs.Tour.{IsStop, IsTour};

@@ -1,6 +1,6 @@
 //! The report of a schedule.
 ghost use Rattle.std.specs.Prelude.{◌≤◌, ◌*◌, length, All, IfOk};
-ghost use Rattle.cert_text.specs.Form.{IsMarkForm};
+ghost use Rattle.cert_text.specs.Text.Form.{IsMarkForm};
 ghost use Rattle.duty_core.specs.declared.limits.TheConstants.{LONGEST_LOG};
 ghost use Rattle.duty_core.specs.Params.{unit_minutes};
 ghost use Rattle.tour_model.specs.declared.limits.TheConstants.{LONGEST_TOUR};

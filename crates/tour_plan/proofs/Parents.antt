@@ -3,7 +3,7 @@ use Rattle.std.proofs.Common.{List, length}
 use Rattle.std.proofs.lemmas.Option.{slice_get_within}
 use Rattle.rule_core.specs.declared.roots.Root.{Root}
 use Rattle.tour_model.specs.Layer.{layer_at}
-use Rattle.cert_text.specs.Problem.{Problem}
+use Rattle.cert_text.specs.CoverLists.Problem.{Problem}
 use Rattle.label_state.specs.declared.kept.Kept.{Kept}
 use Rattle.label_state.specs.Path.{HaveParents}
 use Rattle.label_search.specs.Sound.{IsSound}

@@ -18,8 +18,8 @@ use Rattle.label_state.specs.declared.kept.Place.{Place}
 use Rattle.label_state.specs.Layers.{label_layers}
 use Rattle.label_state.specs.Path.{path_of, path_marks}
 use Rattle.label_search.specs.Searched.{IsFound}
-use Rattle.cert_text.specs.Cover.{IsCoverList}
-use Rattle.cert_text.specs.Planning.{problem_of, state_at, IsLogState}
+use Rattle.cert_text.specs.CoverLists.Cover.{IsCoverList}
+use Rattle.cert_text.specs.CoverLists.Planning.{problem_of, state_at, IsLogState}
 use Rattle.refutation.specs.Refutes.{ProveAnswer, IsSolved, steps_of}
 
 -- the path to the place that a search found is one

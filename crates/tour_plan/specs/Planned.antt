@@ -12,15 +12,15 @@ use Rattle.tour_model.specs.Schedule.{IsSolutionWith, IsShortest, IsInfeasible, 
 use Rattle.cert_text.specs.declared.cert.Cert.{Cert}
 use Rattle.cert_text.specs.declared.cert.CertKind.{CertKind}
 use Rattle.cert_text.specs.declared.cert.CertKind.TheVariants as kind
-use Rattle.cert_text.specs.declared.limits.TheConstants.{CERT_LIMIT}
+use Rattle.cert_text.specs.declared.text.limits.TheConstants.{CERT_LIMIT}
 use Rattle.cert_text.specs.Cert.{acts_of_runs, IsValidCert}
-use Rattle.cert_text.specs.Form.{IsCertForm}
-use Rattle.cert_text.specs.Problem.{Problem}
-use Rattle.cert_text.specs.Planning.{problem_of, IsLogState}
-use Rattle.cert_text.specs.Spelling.{IsCertText}
+use Rattle.cert_text.specs.Text.Form.{IsCertForm}
+use Rattle.cert_text.specs.CoverLists.Problem.{Problem}
+use Rattle.cert_text.specs.CoverLists.Planning.{problem_of, IsLogState}
+use Rattle.cert_text.specs.Text.Spelling.{IsCertText}
 use Rattle.label_state.specs.declared.kept.Kept.{Kept}
 use Rattle.label_state.specs.Layers.{label_count}
-use Rattle.label_search.specs.declared.by_layers.TheConstants.{MOST_BUDGET}
+use Rattle.cert_text.specs.declared.text.limits.TheConstants.{MOST_LABELS}
 use Rattle.label_search.specs.Sound.{IsSound, IsWorked, HasLabels}
 use Rattle.label_search.specs.Searched.{HasSolution}
 use Rattle.rule_books.specs.Books.{book_for}
@@ -31,7 +31,7 @@ use Rattle.tour_plan.specs.declared.planned.Planned.TheVariants.{Shortest, Infea
 -- A search may be given this budget of labels.
 pub record IsBudget (budget : ℕ) : Type 0 where
   pub some : 1 ≤ budget
-  pub most : budget ≤ MOST_BUDGET
+  pub most : budget ≤ MOST_LABELS
 
 -- The log is lawful.
 abbrev pub IsLawfulLog : Tour → List Activity → Type 0

@@ -5,7 +5,7 @@ ghost use Rattle.duty_core.specs.Params.{unit_minutes};
 ghost use Rattle.duty_core.specs.declared.limits.TheConstants.{LONGEST_LOG};
 ghost use Rattle.tour_model.specs.Tour.{IsTour};
 ghost use Rattle.label_state.specs.Layers.{label_count, label_layers};
-ghost use Rattle.label_search.specs.declared.by_layers.TheConstants.{MOST_BUDGET};
+ghost use Rattle.cert_text.specs.declared.text.limits.TheConstants.{MOST_LABELS};
 ghost use Rattle.cert_text.specs.declared.cert.Cert.{Cert};
 ghost use Rattle.cert_text.specs.Cert.{IsValidCert, acts_of_runs};
 ghost use Rattle.refutation.specs.Refutes.{ProveAnswer, kind_of, steps_of, marks_of};
@@ -33,7 +33,7 @@ pub fn bytes_of<B: RuleBook>(
     requires tour { IsTour tour.now }
     requires params { (B.machine book.now).params ≡ tour.now.params }
     requires short { unit_minutes tour.now.params * length log.now ≤ LONGEST_LOG }
-    requires few { label_count layers.now ≤ MOST_BUDGET }
+    requires few { label_count layers.now ≤ MOST_LABELS }
     requires proven { ProveAnswer tour.now log.now (B.machine book.now) (option_copied best) (label_layers layers.now) }
     ensures { IfOk result (λ bytes. (cert : Cert)
         × IsProof (λ cert. IsValidCert tour.now log.now (B.machine book.now) cert) tour.now (kind_of (option_copied best.entry)) bytes.items cert

@@ -7,17 +7,17 @@ use Rattle.rule_core.specs.Reach.{idle_list}
 use Rattle.rule_core.specs.Machine.{Machine}
 use Rattle.rule_core.specs.Book.{IsBook}
 use Rattle.tour_model.specs.declared.label.Label.{Label}
-use Rattle.cert_text.specs.declared.grown.Grown.{Grown}
+use Rattle.cert_text.specs.declared.cover_lists.grown.Grown.{Grown}
 use Rattle.tour_model.specs.declared.tour.Tour.{Tour}
 use Rattle.tour_model.specs.Tour.{IsTour}
 use Rattle.tour_model.specs.Word.{word_length}
 use Rattle.tour_model.specs.Laws.WayLaws.{may_before}
-use Rattle.cert_text.specs.Laws.ProblemOf.{step_state}
-use Rattle.cert_text.specs.Problem.{Problem, grow, grown_by, successors_of}
-use Rattle.cert_text.specs.Planning.{state_at, problem_of}
-use Rattle.cert_text.specs.Cover.{IsLabelAt}
-use Rattle.cert_text.specs.Laws.BetterLaws.{grown_from}
-use Rattle.cert_text.specs.Laws.ContinuationLaws.{label_by}
+use Rattle.cert_text.specs.CoverLists.Laws.ProblemOf.{step_state}
+use Rattle.cert_text.specs.CoverLists.Problem.{Problem, grow, grown_by, successors_of}
+use Rattle.cert_text.specs.CoverLists.Planning.{state_at, problem_of}
+use Rattle.cert_text.specs.CoverLists.Cover.{IsLabelAt}
+use Rattle.cert_text.specs.CoverLists.Laws.BetterLaws.{grown_from}
+use Rattle.cert_text.specs.CoverLists.Laws.ContinuationLaws.{label_by}
 use Rattle.label_extend.specs.Growths.{AreGrownAt}
 
 -- by driving, by service and by each activity to try, one list after the other

@@ -4,8 +4,8 @@ use Rattle.rule_core.specs.Reach.{IsOneOf, listed}
 use Rattle.tour_model.specs.Schedule.{step_units}
 use Rattle.tour_model.specs.Eta.{eta_of}
 use Rattle.tour_model.specs.Word.{word_length}
-use Rattle.cert_text.specs.Planning.{problem_of, minute_of}
-use Rattle.cert_text.specs.Laws.ProblemOf.{word_few}
+use Rattle.cert_text.specs.CoverLists.Planning.{problem_of, minute_of}
+use Rattle.cert_text.specs.CoverLists.Laws.ProblemOf.{word_few}
 use Rattle.cert_checker.specs.Parsed.{there}
 use Rattle.cert_checker.proofs.AnsweredLaws.{advanced_states, off_answered, covered_answered}
 use Rattle.cert_checker.proofs.ClaimLaws.{done_within}

@@ -1,5 +1,5 @@
 use Rattle.std.proofs.Common.{◌≡◌, true, false, sym, ◌∙◌}
-use Rattle.cert_text.specs.Planning.{problem_of}
+use Rattle.cert_text.specs.CoverLists.Planning.{problem_of}
 use Rattle.cert_checker.specs.Parsed.{there}
 use Rattle.cert_checker.proofs.AnsweredLaws.{covered_three, three_covered}
 use Rattle.cert_checker.proofs.answered.are_nexts_covered.Goals as goal

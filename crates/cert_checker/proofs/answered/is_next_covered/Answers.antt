@@ -1,7 +1,7 @@
 use Rattle.std.proofs.Common.{sym, subst, refl, inl, Decides}
 use Rattle.std.specs.Option.{option_to_list}
 use Rattle.rule_core.specs.Reach.{IsOneOf}
-use Rattle.cert_text.specs.Planning.{problem_of}
+use Rattle.cert_text.specs.CoverLists.Planning.{problem_of}
 use Rattle.cert_checker.specs.Parsed.{there}
 use Rattle.cert_checker.specs.Conditions.{AreCovered}
 use Rattle.cert_checker.proofs.AnsweredLaws.{one_covered}

@@ -4,7 +4,7 @@ use Rattle.rule_core.specs.Book.{IsBook}
 use Rattle.tour_model.specs.Layer.{layer_at}
 use Rattle.tour_model.specs.Word.{word_length}
 use Rattle.cert_text.specs.declared.cert.CertKind.TheVariants.{Shortest}
-use Rattle.cert_text.specs.Planning.{problem_of, state_at, minute_of}
+use Rattle.cert_text.specs.CoverLists.Planning.{problem_of, state_at, minute_of}
 use Rattle.cert_text.specs.Cert.{acts_of_runs}
 use Rattle.cert_checker.specs.Parsed.{there}
 use Rattle.cert_checker.specs.Conditions.{layer_of, LayersPass, IsFirstLabel}

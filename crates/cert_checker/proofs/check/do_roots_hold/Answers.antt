@@ -1,6 +1,6 @@
 use Rattle.std.proofs.Common.{◌≡◌, Decides, subst}
 use Rattle.tour_model.specs.Word.{word_length}
-use Rattle.cert_text.specs.Planning.{problem_of}
+use Rattle.cert_text.specs.CoverLists.Planning.{problem_of}
 use Rattle.cert_checker.specs.Parsed.{there}
 use Rattle.cert_checker.specs.Conditions.{layer_of}
 use Rattle.cert_checker.specs.Rooted.{AreRooted}

@@ -2,7 +2,7 @@ use Rattle.std.proofs.Common.{◌≡◌, ◌==◌, ℕ, ◌+◌, true, false, sy
 use Rattle.std.proofs.lemmas.Bool.Decides.{nat_tests}
 use Rattle.std.proofs.lemmas.List.{get_or_default}
 use Rattle.duty_core.specs.declared.activity.Activity.TheVariants.{Drive}
-use Rattle.cert_text.specs.Laws.ProblemOf.{word_few}
+use Rattle.cert_text.specs.CoverLists.Laws.ProblemOf.{word_few}
 use Rattle.cert_checker.proofs.ClaimLaws.{IsServing, serving_first, serving_more, unusable, unmay, serving_ends, ends_serving}
 use Rattle.cert_checker.proofs.claim.serves.Goals as goal
 

@@ -1,7 +1,7 @@
 use Rattle.std.proofs.Common.{◌≡◌, true, false, refl, get_or}
 use Rattle.std.proofs.lemmas.List.{get_or_default}
 use Rattle.rule_core.specs.Laws.OneOf.{one_of-get_or}
-use Rattle.cert_text.specs.Planning.{problem_of}
+use Rattle.cert_text.specs.CoverLists.Planning.{problem_of}
 use Rattle.cert_checker.proofs.LabelLaws.{not_so}
 use Rattle.cert_checker.proofs.PlaceLaws.{place_covers, places_more, no_places}
 use Rattle.cert_checker.proofs.covered.is_any_better.Goals as goal

@@ -1,6 +1,6 @@
 use Rattle.std.proofs.Common.{take}
-use Rattle.cert_text.specs.Planning.{problem_of}
-use Rattle.cert_text.specs.Cover.{NoneCovers}
+use Rattle.cert_text.specs.CoverLists.Planning.{problem_of}
+use Rattle.cert_text.specs.CoverLists.Cover.{NoneCovers}
 use Rattle.cert_checker.specs.Places.{labels_at}
 use Rattle.cert_checker.proofs.covered.is_any_better.Given as goal
 

@@ -1,5 +1,5 @@
 use Rattle.std.proofs.Common.{◌≡◌, true, false}
-use Rattle.cert_text.specs.Planning.{problem_of, minute_of}
+use Rattle.cert_text.specs.CoverLists.Planning.{problem_of, minute_of}
 use Rattle.cert_checker.proofs.PlaceLaws.{past_end, absent_at, present_at, state_at_place}
 use Rattle.cert_checker.proofs.covered.is_better_at.Goals as goal
 

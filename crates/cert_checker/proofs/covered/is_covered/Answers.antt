@@ -1,7 +1,7 @@
 use Rattle.std.proofs.Common.{◌≡◌, length, ap, subst, arith, Decides}
 use Rattle.std.proofs.lemmas.List.{take_all}
-use Rattle.cert_text.specs.Planning.{problem_of}
-use Rattle.cert_text.specs.Cover.{IsCovered}
+use Rattle.cert_text.specs.CoverLists.Planning.{problem_of}
+use Rattle.cert_text.specs.CoverLists.Cover.{IsCovered}
 use Rattle.cert_checker.specs.Parsed.{there}
 use Rattle.cert_checker.proofs.covered.is_covered.Goals as goal
 

@@ -1,6 +1,6 @@
 use Rattle.std.proofs.Common.{◌≡◌, true, false, sym, take, subst, Decides}
-use Rattle.cert_text.specs.Planning.{problem_of, minute_of}
-use Rattle.cert_text.specs.Cover.{IsCovered}
+use Rattle.cert_text.specs.CoverLists.Planning.{problem_of, minute_of}
+use Rattle.cert_text.specs.CoverLists.Cover.{IsCovered}
 use Rattle.cert_checker.specs.Parsed.{AreStatesIn}
 use Rattle.cert_checker.specs.Places.{labels_at, HasPlaces}
 use Rattle.cert_checker.proofs.LabelLaws.{states_before}

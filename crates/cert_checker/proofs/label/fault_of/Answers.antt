@@ -1,7 +1,7 @@
 use Rattle.std.proofs.Common.{◌≤◌, take, sym, ◌∙◌, subst, arith}
 use Rattle.tour_model.specs.Word.{word_length}
-use Rattle.cert_text.specs.Planning.{problem_of, state_at, minute_of}
-use Rattle.cert_text.specs.Cover.{IsLabelAt, NoneCovers}
+use Rattle.cert_text.specs.CoverLists.Planning.{problem_of, state_at, minute_of}
+use Rattle.cert_text.specs.CoverLists.Cover.{IsLabelAt, NoneCovers}
 use Rattle.cert_checker.specs.Parsed.{there}
 use Rattle.cert_checker.specs.Conditions.{IsLongEnough}
 use Rattle.cert_checker.proofs.LabelLaws.{label_from, none_better, not_so}

@@ -1,7 +1,7 @@
 use Rattle.std.proofs.Common.{◌+◌, ◌<◌, arith, Decides}
 use Rattle.tour_model.specs.Word.{word_length}
-use Rattle.cert_text.specs.Problem.{successors_of}
-use Rattle.cert_text.specs.Planning.{problem_of}
+use Rattle.cert_text.specs.CoverLists.Problem.{successors_of}
+use Rattle.cert_text.specs.CoverLists.Planning.{problem_of}
 use Rattle.cert_checker.specs.Parsed.{there}
 use Rattle.cert_checker.specs.Conditions.{AreAnswered, IsAnsweredFor}
 use Rattle.cert_checker.proofs.ParsedLaws.{ok_also}

@@ -1,6 +1,6 @@
 use Rattle.std.proofs.Common.{take, sym, subst, IfOk}
 use Rattle.std.specs.Prelude.{MatchOption}
-use Rattle.cert_text.specs.Planning.{problem_of, state_at}
+use Rattle.cert_text.specs.CoverLists.Planning.{problem_of, state_at}
 use Rattle.cert_checker.specs.Parsed.{there}
 use Rattle.cert_checker.specs.Conditions.{Passes, FailsBy}
 use Rattle.cert_checker.proofs.layer.fault_at.Goals as goal

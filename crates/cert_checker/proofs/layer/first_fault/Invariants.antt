@@ -1,5 +1,5 @@
 use Rattle.std.proofs.Common.{◌≡◌}
-use Rattle.cert_text.specs.Planning.{problem_of, state_at}
+use Rattle.cert_text.specs.CoverLists.Planning.{problem_of, state_at}
 use Rattle.cert_checker.specs.Parsed.{there}
 use Rattle.cert_checker.specs.Conditions.{PassUpTo}
 use Rattle.cert_checker.proofs.layer.first_fault.Given as goal

@@ -3,7 +3,7 @@ use Rattle.std.specs.Prelude.{MatchOption}
 use Rattle.std.proofs.lemmas.List.{length-map}
 use Rattle.tour_model.specs.Layer.{layer_at}
 use Rattle.tour_model.specs.Word.{word_length}
-use Rattle.cert_text.specs.Planning.{problem_of, state_at, minute_of}
+use Rattle.cert_text.specs.CoverLists.Planning.{problem_of, state_at, minute_of}
 use Rattle.cert_checker.specs.Parsed.{label_of, there}
 use Rattle.cert_checker.specs.Conditions.{PassUpTo, IsFirstFault}
 use Rattle.cert_checker.proofs.LabelLaws.{lines_more, read_is, layers_more, layers_whole}

@@ -1,6 +1,6 @@
 use Rattle.std.proofs.Common.{◌≡◌, ◌+◌, ◌*◌, ◌≤◌}
 use Rattle.tour_model.specs.Word.{word_length}
-use Rattle.cert_text.specs.Planning.{problem_of, state_at, minute_of}
+use Rattle.cert_text.specs.CoverLists.Planning.{problem_of, state_at, minute_of}
 use Rattle.cert_checker.specs.Parsed.{AreStatesIn, AreWithin}
 use Rattle.cert_checker.specs.Conditions.{LayersPass, layer_of, lines_before}
 use Rattle.cert_checker.proofs.layers.first_label.Given as goal

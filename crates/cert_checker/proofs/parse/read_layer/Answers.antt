@@ -1,5 +1,5 @@
 use Rattle.std.proofs.Common.{◌≡◌, sym, ◌∙◌, ap, subst}
-use Rattle.cert_text.specs.Planning.{minute_of}
+use Rattle.cert_text.specs.CoverLists.Planning.{minute_of}
 use Rattle.cert_checker.specs.Parsed.{labels_of, AreStatesIn, AreWithin}
 use Rattle.cert_checker.proofs.ParsedLaws.{ok_also, states_read, within_read}
 use Rattle.cert_checker.proofs.parse.read_layer.Goals as goal

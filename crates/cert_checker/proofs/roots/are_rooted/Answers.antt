@@ -3,9 +3,9 @@ use Rattle.std.proofs.lemmas.List.{take_all}
 use Rattle.rule_core.specs.declared.roots.Root.{Root}
 use Rattle.rule_core.specs.Reach.{IsOneOf}
 use Rattle.rule_core.specs.Laws.OneOf.{one_of_item}
-use Rattle.cert_text.specs.Problem.{root_label}
-use Rattle.cert_text.specs.Planning.{problem_of}
-use Rattle.cert_text.specs.Cover.{IsCovered}
+use Rattle.cert_text.specs.CoverLists.Problem.{root_label}
+use Rattle.cert_text.specs.CoverLists.Planning.{problem_of}
+use Rattle.cert_text.specs.CoverLists.Cover.{IsCovered}
 use Rattle.cert_checker.specs.Parsed.{there}
 use Rattle.cert_checker.proofs.LabelLaws.{each_more}
 use Rattle.cert_checker.proofs.roots.are_rooted.Goals as goal

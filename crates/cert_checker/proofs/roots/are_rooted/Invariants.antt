@@ -1,5 +1,5 @@
 use Rattle.std.proofs.Common.{take}
-use Rattle.cert_text.specs.Planning.{problem_of}
+use Rattle.cert_text.specs.CoverLists.Planning.{problem_of}
 use Rattle.cert_checker.specs.Parsed.{there}
 use Rattle.cert_checker.specs.Rooted.{AreRooted}
 use Rattle.cert_checker.proofs.roots.are_rooted.Given as goal

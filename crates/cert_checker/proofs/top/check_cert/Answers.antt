@@ -1,7 +1,7 @@
 use Rattle.std.proofs.Common.{subst, IfOk}
 use Rattle.std.specs.Prelude.{Result, Ok, Err}
-use Rattle.cert_text.specs.Form.{IsCertForm}
-use Rattle.cert_text.specs.Spelling.{IsCertText}
+use Rattle.cert_text.specs.Text.Form.{IsCertForm}
+use Rattle.cert_text.specs.Text.Spelling.{IsCertText}
 use Rattle.cert_checker.specs.Verdicts.{Proves}
 use Rattle.cert_checker.specs.Checked.{IsVerdictFor, IsCheck, Follows}
 use Rattle.cert_checker.proofs.CheckedLaws.{only_read, check_of, follows_of}

@@ -1,9 +1,9 @@
 use Rattle.std.proofs.Common.{sym, subst, ◌∙◌}
 use Rattle.duty_core.specs.Params.{allows}
 use Rattle.rule_core.specs.Book.{IsBook}
-use Rattle.cert_text.specs.Planning.{problem_of, state_at}
-use Rattle.cert_text.specs.Laws.ProblemOf.{problem_laws}
-use Rattle.cert_text.specs.Laws.ContinuationLaws.{better_answers}
+use Rattle.cert_text.specs.CoverLists.Planning.{problem_of, state_at}
+use Rattle.cert_text.specs.CoverLists.Laws.ProblemOf.{problem_laws}
+use Rattle.cert_text.specs.CoverLists.Laws.ContinuationLaws.{better_answers}
 use Rattle.label_dominance.proofs.dominance.better.Goals as goal
 
 pub returns-clause-answers : goal.returns-clause-answers

@@ -1,7 +1,7 @@
 use Rattle.std.proofs.Common.{◌≡◌, true, false, get_or, sym, ◌∙◌, subst, arith}
 use Rattle.label_state.specs.declared.kept.Kept.{Kept}
-use Rattle.cert_text.specs.Problem.{is_better}
-use Rattle.cert_text.specs.Planning.{problem_of, minute_of}
+use Rattle.cert_text.specs.CoverLists.Problem.{is_better}
+use Rattle.cert_text.specs.CoverLists.Planning.{problem_of, minute_of}
 use Rattle.label_dominance.proofs.OfferLaws.{none_more, none_all, first_cover_at, label_item, at_places, place_inside}
 use Rattle.label_dominance.proofs.dominance.first_cover.Goals as goal
 

@@ -1,4 +1,4 @@
-use Rattle.cert_text.specs.Planning.{problem_of}
+use Rattle.cert_text.specs.CoverLists.Planning.{problem_of}
 use Rattle.label_dominance.proofs.OfferLaws.{NoneAt}
 use Rattle.label_dominance.proofs.dominance.first_cover.Given as goal
 

@@ -1,5 +1,5 @@
 use Rattle.std.proofs.Common.{arith}
-use Rattle.cert_text.specs.Laws.ProblemOf.{word_few}
+use Rattle.cert_text.specs.CoverLists.Laws.ProblemOf.{word_few}
 use Rattle.label_extend.proofs.extend.push_by.Goals as goal
 
 pub push_nexts-requires : goal.push_nexts-requires

@@ -3,8 +3,8 @@ use Rattle.std.specs.Option.{option_to_list}
 use Rattle.rule_core.specs.Reach.{idle_list}
 use Rattle.rule_core.specs.Book.{IsBook}
 use Rattle.tour_model.specs.Word.{word_length}
-use Rattle.cert_text.specs.Problem.{grown_by, successors_of}
-use Rattle.cert_text.specs.Planning.{problem_of, state_at}
+use Rattle.cert_text.specs.CoverLists.Problem.{grown_by, successors_of}
+use Rattle.cert_text.specs.CoverLists.Planning.{problem_of, state_at}
 use Rattle.label_extend.specs.Growths.{AreGrownAt}
 use Rattle.label_extend.specs.Laws.GrowthLaws.{successors_built, finished_none, grown_label}
 use Rattle.label_extend.proofs.extend.successors.Goals as goal

@@ -1,7 +1,7 @@
 use Rattle.std.proofs.Common.{◌≡◌, rules, ap}
 use Rattle.std.specs.Prelude.{Some}
 use Rattle.label_search.specs.declared.best.Best.{Best}
-use Rattle.cert_text.specs.Cover.{taken}
+use Rattle.cert_text.specs.CoverLists.Cover.{taken}
 use Rattle.label_search.proofs.BestLaws.{best_above, best_new}
 use Rattle.label_search.proofs.best.best_with.Goals as goal
 

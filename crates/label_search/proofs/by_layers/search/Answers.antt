@@ -4,8 +4,8 @@ use Rattle.rule_core.specs.Book.{IsBook}
 use Rattle.rule_core.specs.Reach.{IsOneOf}
 use Rattle.tour_model.specs.Layer.{layer_at}
 use Rattle.tour_model.specs.Word.{word_length}
-use Rattle.cert_text.specs.Planning.{problem_of, state_at, IsLogState}
-use Rattle.cert_text.specs.Laws.ProblemOf.{word_some}
+use Rattle.cert_text.specs.CoverLists.Planning.{problem_of, state_at, IsLogState}
+use Rattle.cert_text.specs.CoverLists.Laws.ProblemOf.{word_some}
 use Rattle.label_state.specs.Layers.{label_count}
 use Rattle.label_search.specs.Sound.{IsFirstLayer, IsSound}
 use Rattle.label_search.specs.Searched.{layers_of, IsAnswer, IsWithin}

@@ -1,6 +1,6 @@
 use Rattle.std.proofs.Common.{◌-◌}
 use Rattle.label_state.specs.Layers.{label_count}
-use Rattle.cert_text.specs.Planning.{problem_of, state_at}
+use Rattle.cert_text.specs.CoverLists.Planning.{problem_of, state_at}
 use Rattle.label_search.proofs.SearchLaws.{IsSearching}
 use Rattle.label_search.proofs.by_layers.search.Given as goal
 

@@ -8,8 +8,8 @@ use Rattle.tour_model.specs.Word.{word_length}
 use Rattle.label_state.specs.declared.kept.Kept.{Kept}
 use Rattle.label_state.specs.Layers.{labels_of, last_step, last_layer, label_count}
 use Rattle.label_state.specs.Laws.LayerLaws.{label_kept}
-use Rattle.cert_text.specs.Planning.{problem_of, state_at, minute_of}
-use Rattle.cert_text.specs.Cover.{IsLabelAt}
+use Rattle.cert_text.specs.CoverLists.Planning.{problem_of, state_at, minute_of}
+use Rattle.cert_text.specs.CoverLists.Cover.{IsLabelAt}
 use Rattle.label_search.specs.Sound.{StandsBefore}
 use Rattle.label_search.specs.Searching.{AddsLayer}
 use Rattle.label_search.proofs.Places.{one_of_taken}

@@ -1,4 +1,4 @@
-use Rattle.cert_text.specs.Planning.{problem_of}
+use Rattle.cert_text.specs.CoverLists.Planning.{problem_of}
 use Rattle.label_search.specs.Searching.{AddsLayer}
 use Rattle.label_search.proofs.fill.add_layer.Given as goal
 

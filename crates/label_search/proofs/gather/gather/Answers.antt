@@ -2,9 +2,9 @@ use Rattle.std.proofs.Common.{◌+◌, subst, arith}
 use Rattle.rule_core.specs.Book.{IsBook}
 use Rattle.rule_core.specs.Laws.OneOf.{one_of_item}
 use Rattle.tour_model.specs.Word.{word_length}
-use Rattle.cert_text.specs.Problem.{successors_of}
-use Rattle.cert_text.specs.Planning.{problem_of, state_at}
-use Rattle.cert_text.specs.Laws.ProblemOf.{word_few}
+use Rattle.cert_text.specs.CoverLists.Problem.{successors_of}
+use Rattle.cert_text.specs.CoverLists.Planning.{problem_of, state_at}
+use Rattle.cert_text.specs.CoverLists.Laws.ProblemOf.{word_few}
 use Rattle.label_extend.specs.Laws.GrowthLaws.{grown_label}
 use Rattle.label_search.proofs.GatherLaws.{gathering_more, gathered_sorted, labels_gathered, labels_permuted, labels_small}
 use Rattle.label_search.proofs.gather.gather.Goals as goal

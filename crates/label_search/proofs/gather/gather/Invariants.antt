@@ -1,6 +1,6 @@
 use Rattle.std.proofs.Common.{◌+◌, take}
 use Rattle.tour_model.specs.Word.{word_length}
-use Rattle.cert_text.specs.Planning.{problem_of, state_at}
+use Rattle.cert_text.specs.CoverLists.Planning.{problem_of, state_at}
 use Rattle.label_search.specs.Searching.{AreLabelsAt}
 use Rattle.label_search.proofs.GatherLaws.{IsGathering}
 use Rattle.label_search.proofs.gather.gather.Given as goal

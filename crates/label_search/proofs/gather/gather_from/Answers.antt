@@ -6,8 +6,8 @@ use Rattle.std.proofs.lemmas.Iterator.Consumers.{YieldsList-turn, YieldsList-end
 use Rattle.rule_core.specs.Reach.{IsOneOf}
 use Rattle.rule_core.specs.Laws.OneOf.{one_of_item}
 use Rattle.tour_model.specs.Word.{word_length}
-use Rattle.cert_text.specs.Planning.{problem_of, state_at}
-use Rattle.cert_text.specs.Cover.{IsPrunedAt, IsLabelAt}
+use Rattle.cert_text.specs.CoverLists.Planning.{problem_of, state_at}
+use Rattle.cert_text.specs.CoverLists.Cover.{IsPrunedAt, IsLabelAt}
 use Rattle.label_search.specs.Searching.{Gathers}
 use Rattle.label_search.proofs.GatherLaws.{gathers_on, gathers_pushed, gathers_pruned}
 use Rattle.label_search.proofs.gather.gather_from.Goals as goal

@@ -1,5 +1,5 @@
 use Rattle.std.proofs.Common.{◌+◌}
-use Rattle.cert_text.specs.Planning.{problem_of}
+use Rattle.cert_text.specs.CoverLists.Planning.{problem_of}
 use Rattle.label_search.specs.Searching.{Gathers}
 use Rattle.label_search.proofs.gather.gather_from.Given as goal
 

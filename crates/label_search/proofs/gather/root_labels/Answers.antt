@@ -4,8 +4,8 @@ use Rattle.duty_core.specs.declared.activity.Activity.TheVariants.{Off}
 use Rattle.rule_core.specs.Laws.OneOf.{one_of_item}
 use Rattle.tour_model.specs.Word.{word_length}
 use Rattle.label_state.specs.declared.kept.Kept.{Kept}
-use Rattle.cert_text.specs.Problem.{root_label}
-use Rattle.cert_text.specs.Planning.{minute_of, state_at}
+use Rattle.cert_text.specs.CoverLists.Problem.{root_label}
+use Rattle.cert_text.specs.CoverLists.Planning.{minute_of, state_at}
 use Rattle.label_search.specs.Searching.{AreLabelsAt}
 use Rattle.label_search.proofs.GatherLaws.{IsRooting, rooting_more, rooted_whole, first_ordered, first_label, labels_push}
 use Rattle.label_search.proofs.gather.root_labels.Goals as goal

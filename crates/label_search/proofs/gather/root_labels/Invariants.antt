@@ -1,5 +1,5 @@
 use Rattle.tour_model.specs.Word.{word_length}
-use Rattle.cert_text.specs.Planning.{state_at}
+use Rattle.cert_text.specs.CoverLists.Planning.{state_at}
 use Rattle.label_search.specs.Searching.{AreLabelsAt}
 use Rattle.label_search.proofs.GatherLaws.{IsRooting}
 use Rattle.label_search.proofs.gather.root_labels.Given as goal

@@ -6,10 +6,10 @@ use Rattle.rule_core.specs.Book.{IsBook}
 use Rattle.rule_core.specs.Reach.{IsOneOf}
 use Rattle.rule_core.specs.Laws.OneOf.{one_of_item}
 use Rattle.tour_model.specs.Word.{word_length}
-use Rattle.cert_text.specs.Problem.{HasBound}
-use Rattle.cert_text.specs.Planning.{problem_of, state_at, minute_of}
-use Rattle.cert_text.specs.Cover.{IsLabelAt}
-use Rattle.cert_text.specs.Laws.ProblemOf.{problem_laws}
+use Rattle.cert_text.specs.CoverLists.Problem.{HasBound}
+use Rattle.cert_text.specs.CoverLists.Planning.{problem_of, state_at, minute_of}
+use Rattle.cert_text.specs.CoverLists.Cover.{IsLabelAt}
+use Rattle.cert_text.specs.CoverLists.Laws.ProblemOf.{problem_laws}
 use Rattle.label_search.specs.Searching.{IsRootState}
 use Rattle.label_search.specs.Ways.{AreRankedReached}
 use Rattle.label_search.proofs.AnswerLaws.{root_state}

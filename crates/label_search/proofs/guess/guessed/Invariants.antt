@@ -1,7 +1,7 @@
 use Rattle.std.proofs.Common.{◌-◌, ◌<◌}
 use Rattle.duty_core.specs.Params.{allows}
 use Rattle.tour_model.specs.declared.limits.TheConstants.{STEP_LIMIT}
-use Rattle.cert_text.specs.Planning.{problem_of, state_at}
+use Rattle.cert_text.specs.CoverLists.Planning.{problem_of, state_at}
 use Rattle.label_search.specs.Searching.{IsRootState}
 use Rattle.label_search.specs.Ways.{AreReached, IsGuess}
 use Rattle.label_search.proofs.guess.guessed.Given as goal

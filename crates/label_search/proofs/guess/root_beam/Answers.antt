@@ -1,8 +1,8 @@
 use Rattle.std.proofs.Common.{◌≡◌, sym, subst, arith}
 use Rattle.duty_core.specs.Params.{allows}
 use Rattle.rule_core.specs.Laws.OneOf.{one_of_item}
-use Rattle.cert_text.specs.Problem.{root_label}
-use Rattle.cert_text.specs.Planning.{problem_of, state_at, minute_of}
+use Rattle.cert_text.specs.CoverLists.Problem.{root_label}
+use Rattle.cert_text.specs.CoverLists.Planning.{problem_of, state_at, minute_of}
 use Rattle.label_search.specs.Searching.{IsRootState}
 use Rattle.label_search.specs.Ways.{AreReached}
 use Rattle.label_search.proofs.GuessLaws.{root_reached, reached_push}

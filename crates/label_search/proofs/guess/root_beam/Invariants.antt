@@ -1,5 +1,5 @@
 use Rattle.duty_core.specs.Params.{allows}
-use Rattle.cert_text.specs.Planning.{problem_of, state_at}
+use Rattle.cert_text.specs.CoverLists.Planning.{problem_of, state_at}
 use Rattle.label_search.specs.Searching.{IsRootState}
 use Rattle.label_search.specs.Ways.{AreReached}
 use Rattle.label_search.proofs.guess.root_beam.Given as goal

@@ -4,7 +4,7 @@ use Rattle.std.proofs.lemmas.Iterator.Consumers.{YieldsList-turn}
 use Rattle.duty_core.specs.Params.{allows}
 use Rattle.rule_core.specs.Reach.{IsOneOf}
 use Rattle.rule_core.specs.Laws.OneOf.{one_of_item}
-use Rattle.cert_text.specs.Planning.{problem_of, state_at}
+use Rattle.cert_text.specs.CoverLists.Planning.{problem_of, state_at}
 use Rattle.label_search.specs.Searching.{IsRootState}
 use Rattle.label_search.specs.Ways.{IsReached, AreReached}
 use Rattle.label_search.proofs.GuessLaws.{reached_push}

@@ -6,7 +6,7 @@ use Rattle.label_state.specs.Layers.{label_layers, label_count}
 use Rattle.cert_text.specs.declared.cert.CertKind.TheVariants.{Shortest}
 use Rattle.cert_text.specs.Cert.{acts_of_runs, AreLayersOf}
 use Rattle.std.specs.Option.{option_copied}
-use Rattle.cert_text.specs.Form.{IsCertForm}
+use Rattle.cert_text.specs.Text.Form.{IsCertForm}
 use Rattle.refutation.specs.Refutes.{IsSolved}
 use Rattle.refutation.specs.Runs.{AreMaximal}
 use Rattle.refutation.proofs.FormLaws.{same_count, same_kept, kept_form, ok_both, ok_more}

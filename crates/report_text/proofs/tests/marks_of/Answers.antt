@@ -1,6 +1,6 @@
 use Rattle.std.proofs.Common.{◌≡◌, false, pos, List, [], ◌∷◌, ◌++◌, All, arith, refl, sym, ◌∙◌, ap, subst}
 use Rattle.std.proofs.lemmas.List.Elements.{All-nil, All-push}
-use Rattle.cert_text.specs.Form.{IsMarkForm}
+use Rattle.cert_text.specs.Text.Form.{IsMarkForm}
 use Rattle.duty_core.specs.declared.mark.Mark.TheVariants.{DeferDay}
 use Rattle.duty_core.specs.declared.params.Params.TheVariants.{Canada}
 use Rattle.duty_core.specs.declared.params.RestWay.TheVariants.{Defer}

@@ -1,7 +1,7 @@
 use Rattle.std.specs.Option.{option_copied}
 use Rattle.std.proofs.Common.{arith}
 use Rattle.label_state.specs.Layers.{label_layers}
-use Rattle.cert_text.specs.Form.{IsCertForm}
+use Rattle.cert_text.specs.Text.Form.{IsCertForm}
 use Rattle.tour_plan.proofs.Proven.{proven_few, proven_solves}
 use Rattle.tour_plan.proofs.certificate.bytes_of.Given.{Over}
 use Rattle.tour_plan.proofs.certificate.bytes_of.Goals as goal

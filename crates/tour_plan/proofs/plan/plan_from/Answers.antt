@@ -7,8 +7,8 @@ use Rattle.tour_model.specs.Layer.{layer_at}
 use Rattle.label_state.specs.Path.{HaveParents}
 use Rattle.label_search.specs.Sound.{IsSound}
 use Rattle.label_search.specs.Searched.{IsAnswer, layers_of}
-use Rattle.cert_text.specs.Planning.{minute_of, problem_of, state_at, IsLogState}
-use Rattle.cert_text.specs.Laws.SolutionLaws.{log_state}
+use Rattle.cert_text.specs.CoverLists.Planning.{minute_of, problem_of, state_at, IsLogState}
+use Rattle.cert_text.specs.CoverLists.Laws.SolutionLaws.{log_state}
 use Rattle.tour_plan.proofs.Parents.{sound_parents}
 use Rattle.tour_plan.proofs.Proven.{path_proven}
 use Rattle.tour_plan.proofs.plan.plan_from.Goals as goal
