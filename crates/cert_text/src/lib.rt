@@ -9,7 +9,9 @@ mod tests;
 mod text;
 
 pub use cert::{Cert, CertKind, CertLabel, CertLabels, CertLayers, StepRun, StepRuns};
-pub use cover_lists::{Grown, cover_lists_prove, is_pruned, minute_at};
+pub use cover_lists::{
+    Grown, cover_lists_prove, departs_later, is_pruned, may_idle_after, minute_at,
+};
 pub use text::{
     CERT_LIMIT, CertFault, MOST_LABELS, cert_texts_fit, certs_are_spelled_once, read_cert,
     write_cert,

@@ -6,7 +6,7 @@ use Rattle.duty_core.specs.Params.{unit_minutes}
 use Rattle.rule_core.specs.Reach.{idle_list}
 use Rattle.rule_core.specs.Machine.{Machine, LeadsTo}
 use Rattle.tour_model.specs.declared.tour.Tour.{Tour}
-use Rattle.tour_model.specs.Word.{word_length, may_do}
+use Rattle.tour_model.specs.Word.{word_length, may_do, may_idle}
 use Rattle.tour_model.specs.Eta.{eta_of}
 use Rattle.tour_model.specs.Schedule.{step_units, log_start}
 use Rattle.cert_text.specs.CoverLists.Problem.{Problem}
@@ -28,6 +28,8 @@ problem_of tour m = record {
   nexts = λ s step x. m.advances s (minute_of tour step) x (step_units tour);
   covers = λ a b step. m.covers a b (minute_of tour step);
   tries = λ s. idle_list (m.idles s);
+  may_idle = may_idle tour;
+  ahead = m.ahead;
 }
 
 -- The log leads to the state, with some marks.

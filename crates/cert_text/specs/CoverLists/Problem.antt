@@ -1,5 +1,5 @@
 -- What a search knows of a tour and a book, step by step: which labels grow from each other, and which is better.
-use Rattle.std.specs.Prelude.{◌≡◌, ℕ, Bool, true, false, List, [], ◌∷◌, map, flat_map, Option, None, Some, nat_le, ◌==◌, ◌&&◌, unwrap_or, if◌then◌else◌}
+use Rattle.std.specs.Prelude.{◌≡◌, ℕ, Bool, true, false, List, [], ◌∷◌, map, flat_map, Option, None, Some, nat_le, nat_lt, ◌==◌, ◌&&◌, ◌||◌, unwrap_or, if◌then◌else◌}
 use Rattle.duty_core.specs.declared.activity.Activity.{Activity}
 use Rattle.duty_core.specs.declared.activity.Activity.TheVariants.{Drive, Serve}
 use Rattle.rule_core.specs.declared.nexts.Next.{Next}
@@ -21,6 +21,10 @@ pub record Problem (S : Type 0) : Type 0 where
   pub covers : S → S → ℕ → Bool
   -- the idle activities to try
   pub tries : S → List Activity
+  -- whether the tour allows to idle after this progress
+  pub may_idle : ℕ → Bool
+  -- whether resting in place of anything else is always safe
+  pub ahead : S → Bool
 
 -- the departure after this step of an activity
 abbrev pub departed : Option ℕ → Activity → ℕ → Option ℕ
@@ -48,9 +52,13 @@ later None b = true
 later (Some x) None = false
 later (Some x) (Some y) = nat_le y x
 
--- The first label departs no earlier, has done as much, and its state covers the other's.
+-- The first label can rest until the second has done as much: it has done more, may idle where it is, and resting is always safe for it.
+abbrev pub can_wait_for : {S : Type 0} → Problem S → Label S → Label S → Bool
+can_wait_for problem a b = (nat_lt b.progress a.progress && problem.may_idle a.progress) && problem.ahead a.state
+
+-- The first label departs no earlier, has done as much or can wait for the other to do so, and its state covers the other's.
 abbrev pub is_better : {S : Type 0} → Problem S → ℕ → Label S → Label S → Bool
-is_better problem step a b = (later a.depart b.depart && (a.progress == b.progress)) && problem.covers a.state b.state step
+is_better problem step a b = (later a.depart b.depart && (a.progress == b.progress || can_wait_for problem a b)) && problem.covers a.state b.state step
 
 -- A label can still be finished, as far as its bound tells.
 pub record HasBound {S : Type 0} (problem : Problem S) (step : ℕ) (l : Label S) : Type 0 where

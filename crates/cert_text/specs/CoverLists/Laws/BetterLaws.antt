@@ -1,6 +1,6 @@
 -- A better label, taken apart, put together and followed by one more step.
-use Rattle.std.proofs.Common.{◌≡◌, ℕ, ◌+◌, ◌≤◌, Bool, true, false, ◌∷◌, refl, ◌∙◌, arith}
-use Rattle.std.specs.Prelude.{Option, None, Some, nat_le, ◌==◌, ◌&&◌, unwrap_or}
+use Rattle.std.proofs.Common.{◌≡◌, ℕ, ◌+◌, ◌<◌, ◌≤◌, Bool, true, false, ◌∷◌, refl, sym, ◌∙◌, subst, arith, inl, inr}
+use Rattle.std.specs.Prelude.{Option, None, Some, nat_le, nat_lt, ◌==◌, ◌&&◌, ◌||◌, ◌⊎◌, unwrap_or}
 use Rattle.std.proofs.lemmas.Bool.{and_parts, and_from}
 use Rattle.std.proofs.lemmas.Bool.Decides.{nat_tests}
 use Rattle.duty_core.specs.declared.activity.Activity.{Activity}
@@ -12,25 +12,70 @@ use Rattle.rule_core.specs.Laws.OneOf.{one_of_map, one_of_flat_map, one_of-map, 
 use Rattle.tour_model.specs.declared.label.Label.{Label}
 use Rattle.cert_text.specs.declared.cover_lists.grown.Grown.{Grown}
 use Rattle.tour_model.specs.Way.{done}
-use Rattle.cert_text.specs.CoverLists.Problem.{Problem, departed, grow, grown_by, successors_of, later, is_better}
+use Rattle.cert_text.specs.CoverLists.Problem.{Problem, departed, grow, grown_by, successors_of, later, can_wait_for, is_better}
 use Rattle.cert_text.specs.CoverLists.Laws.ProblemLaws.{IsProblem}
+
+-- the parts of waiting
+pub record CanWaitFor {S : Type 0} (problem : Problem S) (a b : Label S) : Type 0 where
+  pub more : b.progress < a.progress
+  pub may_idle : problem.may_idle a.progress ≡ true
+  pub ahead : problem.ahead a.state ≡ true
+
+-- It has done as much, or can wait.
+abbrev pub KeepsUp : {S : Type 0} → Problem S → Label S → Label S → Type 0
+KeepsUp problem a b = (a.progress ≡ b.progress) ⊎ CanWaitFor problem a b
 
 -- the parts of better
 pub record AreBetter {S : Type 0} (problem : Problem S) (step : ℕ) (a b : Label S) : Type 0 where
   pub depart : later a.depart b.depart ≡ true
-  pub progress : a.progress ≡ b.progress
+  pub progress : KeepsUp problem a b
   pub state : problem.covers a.state b.state step ≡ true
+
+wait_means : {S : Type 0} (problem : Problem S) (a b : Label S) → can_wait_for problem a b ≡ true → CanWaitFor problem a b
+wait_means problem a b h =
+    let p = and_parts (nat_lt b.progress a.progress && problem.may_idle a.progress) (problem.ahead a.state) h in
+    let q = and_parts (nat_lt b.progress a.progress) (problem.may_idle a.progress) p.0 in
+    record { more = (let e = q.0 in grind (arith, nat_tests, e)); may_idle = q.1; ahead = p.1 }
+
+wait_from : {S : Type 0} (problem : Problem S) (a b : Label S) → CanWaitFor problem a b → can_wait_for problem a b ≡ true
+wait_from problem a b h =
+    let e : nat_lt b.progress a.progress ≡ true = (let f = h.more in grind (arith, nat_tests, f)) in
+    and_from (nat_lt b.progress a.progress && problem.may_idle a.progress) (problem.ahead a.state) (and_from (nat_lt b.progress a.progress) (problem.may_idle a.progress) e h.may_idle) h.ahead
+
+-- one of two tests
+either : (x y : Bool) → (x || y) ≡ true → (x ≡ true) ⊎ (y ≡ true)
+either true y h = inl refl
+either false y h = inr h
+
+left_or : (x y : Bool) → x ≡ true → (x || y) ≡ true
+left_or true y h = refl
+left_or false y h = absurd (let z : false ≡ true = h in cc)
+
+right_or : (x y : Bool) → y ≡ true → (x || y) ≡ true
+right_or true y h = refl
+right_or false y h = h
+
+up_means : {S : Type 0} (problem : Problem S) (a b : Label S) → (a.progress == b.progress || can_wait_for problem a b) ≡ true → KeepsUp problem a b
+up_means problem a b h = elim (either (a.progress == b.progress) (can_wait_for problem a b) h) [
+  | inl e ↦ inl (grind (arith, nat_tests, e))
+  | inr w ↦ inr (wait_means problem a b w)
+]
+
+up_from : {S : Type 0} (problem : Problem S) (a b : Label S) → KeepsUp problem a b → (a.progress == b.progress || can_wait_for problem a b) ≡ true
+up_from problem a b (inl e) = left_or (a.progress == b.progress) (can_wait_for problem a b) (grind (arith, nat_tests, e))
+up_from problem a b (inr w) = right_or (a.progress == b.progress) (can_wait_for problem a b) (wait_from problem a b w)
 
 pub better_means : {S : Type 0} (problem : Problem S) (step : ℕ) (a b : Label S) → is_better problem step a b ≡ true → AreBetter problem step a b
 better_means problem step a b h =
-    let p = and_parts (later a.depart b.depart && (a.progress == b.progress)) (problem.covers a.state b.state step) h in
-    let q = and_parts (later a.depart b.depart) (a.progress == b.progress) p.0 in
-    record { depart = q.0; progress = (let e = q.1 in grind (arith, nat_tests, e)); state = p.1 }
+    let up = a.progress == b.progress || can_wait_for problem a b in
+    let p = and_parts (later a.depart b.depart && up) (problem.covers a.state b.state step) h in
+    let q = and_parts (later a.depart b.depart) up p.0 in
+    record { depart = q.0; progress = up_means problem a b q.1; state = p.1 }
 
 pub better_from : {S : Type 0} (problem : Problem S) (step : ℕ) (a b : Label S) → AreBetter problem step a b → is_better problem step a b ≡ true
 better_from problem step a b h =
-    let e : (a.progress == b.progress) ≡ true = (let f = h.progress in grind (arith, nat_tests, f)) in
-    and_from (later a.depart b.depart && (a.progress == b.progress)) (problem.covers a.state b.state step) (and_from (later a.depart b.depart) (a.progress == b.progress) h.depart e) h.state
+    let up = a.progress == b.progress || can_wait_for problem a b in
+    and_from (later a.depart b.depart && up) (problem.covers a.state b.state step) (and_from (later a.depart b.depart) up h.depart (up_from problem a b h.progress)) h.state
 
 pub later_on : (a b c : Option ℕ) → later a b ≡ true → later b c ≡ true → later a c ≡ true
 later_on None b c h i = refl
@@ -92,6 +137,28 @@ done_idle p Wait i = refl
 done_idle p Off i = refl
 done_idle p Berth i = refl
 
+-- a departure stays
+pub departed_once : (d : ℕ) (x : Activity) (k : ℕ) → departed (Some d) x k ≡ Some d
+departed_once d Drive k = refl
+departed_once d Serve k = refl
+departed_once d Wait k = refl
+departed_once d Off k = refl
+departed_once d Berth k = refl
+
+-- what idles stays no earlier than what does anything, once it has departed
+pub later_idle : (a b : Option ℕ) (y x : Activity) (k c : ℕ) → idles y ≡ true → a ≡ Some c → later a b ≡ true → later (departed a y k) (departed b x k) ≡ true
+later_idle a None y x k c i e h = absurd (let z : false ≡ true = subst (λ o. later o None ≡ true) e h in cc)
+later_idle a (Some d) y x k c i e h =
+    subst (λ o. later o (departed (Some d) x k) ≡ true) (sym (departed_idle a y k i)) (subst (λ o. later a o ≡ true) (sym (departed_once d x k)) h)
+
+-- one activity does one step of the work at most
+pub done_by_one : (p : ℕ) (x : Activity) → done p x ≤ p + 1
+done_by_one p Drive = omega arith
+done_by_one p Serve = omega arith
+done_by_one p Wait = omega arith
+done_by_one p Off = omega arith
+done_by_one p Berth = omega arith
+
 -- where the tour allows an activity and the book has a successor, the label has one
 pub grown_may : {S : Type 0} (problem : Problem S) (step : ℕ) (l : Label S) (x : Activity) (n : Next S) → problem.may step l.progress x ≡ true → IsOneOf (problem.nexts l.state step x) n → IsOneOf (grown_by problem step l x) (grow l step x n)
 grown_may problem step l x n m h = rw m (one_of_map (grow l step x) (problem.nexts l.state step x) n h)
@@ -122,14 +189,19 @@ grown_from problem step l g h =
     let q = one_of-flat_map (grown_by problem step l) (Drive ∷ Serve ∷ problem.tries l.state) g h in
     grown_of problem step l q.0 g q.1 (problem.may step l.progress q.0) refl q.2
 
--- better than what is better
+-- what keeps up with a label keeps up with each that has done as much
+up_on : {S : Type 0} (problem : Problem S) (a b c : Label S) → b.progress ≡ c.progress → KeepsUp problem a b → KeepsUp problem a c
+up_on problem a b c e (inl f) = inl (f ∙ e)
+up_on problem a b c e (inr w) = inr (record { more = subst (λ p. p < a.progress) e w.more; may_idle = w.may_idle; ahead = w.ahead })
+
+-- better than what is better, and has done as much
 pub better_on : {S : Type 0} (problem : Problem S) (is_state : S → ℕ → Type 0) (allowed : Activity → Bool) → IsProblem problem is_state allowed → (step : ℕ) (a b c : Label S) →
-    is_state a.state step → is_state b.state step → is_state c.state step → is_better problem step a b ≡ true → is_better problem step b c ≡ true → is_better problem step a c ≡ true
-better_on problem is_state allowed laws step a b c i j l h g =
+    is_state a.state step → is_state b.state step → is_state c.state step → b.progress ≡ c.progress → is_better problem step a b ≡ true → is_better problem step b c ≡ true → is_better problem step a c ≡ true
+better_on problem is_state allowed laws step a b c i j l e h g =
     let x = better_means problem step a b h in let y = better_means problem step b c g in
     better_from problem step a c (record {
       depart = later_on a.depart b.depart c.depart x.depart y.depart;
-      progress = x.progress ∙ y.progress;
+      progress = up_on problem a b c e x.progress;
       state = laws.on a.state b.state c.state step i j l x.state y.state;
     })
 
@@ -141,4 +213,4 @@ later_itself (Some x) = le_test x x (omega arith)
 pub better_itself : {S : Type 0} (problem : Problem S) (is_state : S → ℕ → Type 0) (allowed : Activity → Bool) → IsProblem problem is_state allowed → (step : ℕ) (a : Label S) →
     is_state a.state step → is_better problem step a a ≡ true
 better_itself problem is_state allowed laws step a i =
-    better_from problem step a a (record { depart = later_itself a.depart; progress = refl; state = laws.itself a.state step i })
+    better_from problem step a a (record { depart = later_itself a.depart; progress = inl refl; state = laws.itself a.state step i })

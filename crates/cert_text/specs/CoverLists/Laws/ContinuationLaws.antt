@@ -1,10 +1,12 @@
 -- A better label answers each continuation of the other, and a label ends no sooner than its bound.
-use Rattle.std.proofs.Common.{◌≡◌, ℕ, ◌+◌, ◌-◌, ◌<◌, ◌≤◌, Bool, true, List, [], ◌∷◌, ◌++◌, length, refl, sym, ◌∙◌, ap, subst, arith, zero, suc}
+use Rattle.std.proofs.Common.{◌≡◌, ℕ, ◌+◌, ◌-◌, ◌<◌, ◌≤◌, Bool, true, List, [], ◌∷◌, ◌++◌, length, refl, sym, ◌∙◌, ap, subst, arith, zero, suc, inl, inr}
 use Rattle.std.specs.Prelude.{Option, None, Some, unwrap_or}
 use Rattle.std.specs.Option.{option_to_list}
+use Rattle.std.proofs.lemmas.Bool.{cases_lt}
 use Rattle.duty_core.specs.declared.activity.Activity.{Activity}
 use Rattle.duty_core.specs.declared.activity.Activity.TheVariants.{Drive, Serve, Wait, Off, Berth}
 use Rattle.duty_core.specs.declared.mark.Mark.{Mark}
+use Rattle.duty_core.specs.Activity.{idles}
 use Rattle.rule_core.specs.declared.nexts.Next.{Next}
 use Rattle.rule_core.specs.Reach.{IsOneOf, Reaches}
 use Rattle.tour_model.specs.declared.label.Label.{Label}
@@ -14,7 +16,7 @@ use Rattle.cert_text.specs.CoverLists.Problem.{Problem, departed, grow, later, i
 use Rattle.cert_text.specs.CoverLists.Cover.{IsLabelAt}
 use Rattle.cert_text.specs.CoverLists.Continuation.{IsAllowedFrom, departed_after, Continues, takes, AnswersContinuations}
 use Rattle.cert_text.specs.CoverLists.Laws.ProblemLaws.{IsProblem}
-use Rattle.cert_text.specs.CoverLists.Laws.BetterLaws.{better_means, later_some, IsPast, later_departed, past_more}
+use Rattle.cert_text.specs.CoverLists.Laws.BetterLaws.{CanWaitFor, KeepsUp, AreBetter, better_means, later_some, later_idle, IsPast, later_departed, past_more, done_idle, done_by_one}
 
 -- A path along these activities.
 pub record HasPath {S : Type 0} (problem : Problem S) (s : S) (k : ℕ) (xs : List Activity) : Type 0 where
@@ -76,23 +78,23 @@ takes_no_more problem is_state allowed laws step a b xs i j h ends =
     let old = later_some d.0 (departed_after b.depart step xs) (subst (λ o. later o (departed_after b.depart step xs) ≡ true) d.1 l) in
     fewer (step + length xs) (step + length xs) (departed_after a.depart step xs) (departed_after b.depart step xs) d.0 old.0 d.1 old.1 old.2 (omega arith)
 
--- Each continuation of a label is one of a better label, which takes no more.
-pub better_continues : {S : Type 0} (problem : Problem S) (is_state : S → ℕ → Type 0) (allowed : Activity → Bool) → IsProblem problem is_state allowed → (step : ℕ) (a b : Label S) →
-    IsLabelAt is_state problem.goal step a → IsLabelAt is_state problem.goal step b → is_better problem step a b ≡ true →
-    (xs : List Activity) → Continues problem allowed step b xs → Continues problem allowed step a xs × (takes step a xs ≤ takes step b xs)
-better_continues problem is_state allowed laws step a b i j h xs c =
-    let q = better_means problem step a b h in
-    let goes = subst (λ p. IsAllowedFrom problem allowed step p xs) (sym q.progress) c.goes in
-    let ends = ap (λ p. done_after p xs) q.progress ∙ c.finishes in
-    let w = goes_along problem is_state allowed laws xs a.state b.state step b.progress c.marks c.end i.state j.state q.state c.goes c.path in (
-      record { goes = goes; finishes = ends; marks = w.marks; end = w.end; path = w.path },
-      takes_no_more problem is_state allowed laws step a b xs i j q.depart ends,
-    )
+-- A continuation of a that ends where one of b does, and takes no more.
+abbrev pub IsMatched : {S : Type 0} → Problem S → (Activity → Bool) → ℕ → Label S → Label S → List Activity → Type 0
+IsMatched problem allowed step a b xs = (ys : List Activity) × Continues problem allowed step a ys × (length ys ≡ length xs) × (takes step a ys ≤ takes step b xs)
 
-pub better_answers : {S : Type 0} (problem : Problem S) (is_state : S → ℕ → Type 0) (allowed : Activity → Bool) → IsProblem problem is_state allowed → (step : ℕ) (a b : Label S) →
-    IsLabelAt is_state problem.goal step a → IsLabelAt is_state problem.goal step b → is_better problem step a b ≡ true → AnswersContinuations problem allowed step a b
-better_answers problem is_state allowed laws step a b i j h xs c =
-    let q = better_continues problem is_state allowed laws step a b i j h xs c in (xs, q.0, refl, q.1)
+-- Where a better label has done as much, it goes along.
+level_matched : {S : Type 0} (problem : Problem S) (is_state : S → ℕ → Type 0) (allowed : Activity → Bool) → IsProblem problem is_state allowed → (step : ℕ) (a b : Label S) →
+    IsLabelAt is_state problem.goal step a → IsLabelAt is_state problem.goal step b → AreBetter problem step a b → a.progress ≡ b.progress →
+    (xs : List Activity) → Continues problem allowed step b xs → IsMatched problem allowed step a b xs
+level_matched problem is_state allowed laws step a b i j h e xs c =
+    let goes = subst (λ p. IsAllowedFrom problem allowed step p xs) (sym e) c.goes in
+    let ends = ap (λ p. done_after p xs) e ∙ c.finishes in
+    let w = goes_along problem is_state allowed laws xs a.state b.state step b.progress c.marks c.end i.state j.state h.state c.goes c.path in (
+      xs,
+      record { goes = goes; finishes = ends; marks = w.marks; end = w.end; path = w.path },
+      refl,
+      takes_no_more problem is_state allowed laws step a b xs i j h.depart ends,
+    )
 
 -- what an activity makes of a label of one step is a label of the next
 label_work : {S : Type 0} (is_state : S → ℕ → Type 0) (goal k p : ℕ) (d : Option ℕ) (s t : S) → p < goal → IsLabelAt is_state goal k (record { depart = d; progress = p; state = s }) → is_state t (k + 1) →
@@ -134,6 +136,80 @@ pub record HasRest {S : Type 0} (problem : Problem S) (allowed : Activity → Bo
 pub rest_of : {S : Type 0} (problem : Problem S) (allowed : Activity → Bool) (k : ℕ) (l : Label S) (x : Activity) (xs : List Activity) → Continues problem allowed k l (x ∷ xs) → HasRest problem allowed k l x xs
 rest_of problem allowed k l x xs c =
     let path = c.path in record { next = path.0; follows = path.1; rest = record { goes = c.goes.2; finishes = c.finishes; marks = path.2; end = c.end; path = path.4 } }
+
+-- A step of rest after which a label that waits is still better than what the other has become.
+record Waits {S : Type 0} (problem : Problem S) (rest : Activity) (k : ℕ) (a after : Label S) : Type 0 where
+  next : Next S
+  may : problem.may k a.progress rest ≡ true
+  follows : IsOneOf (problem.nexts a.state k rest) next
+  better : AreBetter problem (k + 1) (grow a k rest next).label after
+
+-- After a step of rest and one of anything, a label that waits has still done more, or just as much.
+keeps_up : {S : Type 0} (problem : Problem S) (k : ℕ) (a b : Label S) (rest x : Activity) (u n : Next S) → idles rest ≡ true → CanWaitFor problem a b → problem.ahead u.state ≡ true → KeepsUp problem (grow a k rest u).label (grow b k x n).label
+keeps_up problem k a b rest x u n idle w ahead =
+    let e = done_idle a.progress rest idle in
+    let one = done_by_one b.progress x in
+    let more = w.more in
+    elim (cases_lt (done b.progress x) (done a.progress rest)) [
+      | inl lt ↦ inr (record { more = lt; may_idle = subst (λ p. problem.may_idle p ≡ true) (sym e) w.may_idle; ahead = ahead })
+      | inr le ↦ inl (omega arith)
+    ]
+
+waits : {S : Type 0} (problem : Problem S) (is_state : S → ℕ → Type 0) (allowed : Activity → Bool) (laws : IsProblem problem is_state allowed) (k : ℕ) (a b : Label S) (x : Activity) (n : Next S) →
+    IsLabelAt is_state problem.goal k a → IsLabelAt is_state problem.goal k b → AreBetter problem k a b → CanWaitFor problem a b → allowed x ≡ true → IsOneOf (problem.nexts b.state k x) n → Waits problem laws.rest k a (grow b k x n).label
+waits problem is_state allowed laws k a b x n i j h w ok follows =
+    let s = laws.simulates a.state b.state k x n i.state j.state h.state ok follows in
+    let u = laws.ahead_rests a.state k x s.0 i.state w.ahead ok s.1 in
+    let more = w.more in
+    let gone = i.departed (omega arith) in
+    record {
+      next = u.0;
+      may = laws.idles_there k a.progress laws.rest w.may_idle laws.rest_idle;
+      follows = u.1;
+      better = record {
+        depart = later_idle a.depart b.depart laws.rest x k gone.0 laws.rest_idle gone.1 h.depart;
+        progress = keeps_up problem k a b laws.rest x u.0 n laws.rest_idle w u.2;
+        state = laws.on u.0.state s.0.state n.state (k + 1) (laws.next_is a.state k laws.rest u.0 i.state u.1) (laws.next_is a.state k x s.0 i.state s.1) (laws.next_is b.state k x n j.state follows) u.3 s.2;
+      };
+    }
+
+-- the same end, seen one step later
+pub takes_more : {S : Type 0} (k : ℕ) (l : Label S) (x : Activity) (n : Next S) (xs : List Activity) → takes (k + 1) (grow l k x n).label xs ≡ takes k l (x ∷ xs)
+takes_more k l x n xs = ap (λ m. m - unwrap_or (departed_after (departed l.depart x k) (k + 1) xs) 0) (let e : k + 1 + length xs ≡ k + length (x ∷ xs) = omega arith in e)
+
+-- what a label that waits has become is matched, so it is
+rest_matched : {S : Type 0} (problem : Problem S) (allowed : Activity → Bool) (rest : Activity) (k : ℕ) (a b : Label S) (x : Activity) (n : Next S) (xs : List Activity) → allowed rest ≡ true →
+    (w : Waits problem rest k a (grow b k x n).label) → IsMatched problem allowed (k + 1) (grow a k rest w.next).label (grow b k x n).label xs → IsMatched problem allowed k a b (x ∷ xs)
+rest_matched problem allowed rest k a b x n xs ok w q =
+    let c = q.1 in
+    let len = q.2 in (
+      rest ∷ q.0,
+      record { goes = (w.may, ok, c.goes); finishes = c.finishes; marks = option_to_list w.next.mark ++ c.marks; end = c.end; path = (w.next, w.follows, c.marks, refl, c.path) },
+      omega arith,
+      subst (λ m. takes k a (rest ∷ q.0) ≤ m) (takes_more k b x n xs) (subst (λ m. m ≤ takes (k + 1) (grow b k x n).label xs) (takes_more k a rest w.next q.0) q.3),
+    )
+
+-- A better label goes along where it has done as much, and rests until then.
+better_matched : {S : Type 0} (problem : Problem S) (is_state : S → ℕ → Type 0) (allowed : Activity → Bool) → IsProblem problem is_state allowed → (xs : List Activity) (step : ℕ) (a b : Label S) →
+    IsLabelAt is_state problem.goal step a → IsLabelAt is_state problem.goal step b → AreBetter problem step a b → Continues problem allowed step b xs → IsMatched problem allowed step a b xs
+better_matched problem is_state allowed laws [] step a b i j h c = elim h.progress [
+  | inl e ↦ level_matched problem is_state allowed laws step a b i j h e [] c
+  | inr w ↦ absurd (let whole = c.finishes in let within = i.progress in let more = w.more in omega arith)
+]
+better_matched problem is_state allowed laws (x ∷ xs) step a b i j h c = elim h.progress [
+  | inl e ↦ level_matched problem is_state allowed laws step a b i j h e (x ∷ xs) c
+  | inr w ↦
+      let r = rest_of problem allowed step b x xs c in
+      let v = waits problem is_state allowed laws step a b x r.next i j h w c.goes.1 r.follows in
+      rest_matched problem allowed laws.rest step a b x r.next xs laws.rest_allowed v
+      (better_matched problem is_state allowed laws xs (step + 1) (grow a step laws.rest v.next).label (grow b step x r.next).label
+      (label_more problem is_state allowed laws step a laws.rest v.next i v.may v.follows) (label_more problem is_state allowed laws step b x r.next j c.goes.0 r.follows) v.better r.rest)
+]
+
+-- Each continuation of a label is answered by one of a better label.
+pub better_answers : {S : Type 0} (problem : Problem S) (is_state : S → ℕ → Type 0) (allowed : Activity → Bool) → IsProblem problem is_state allowed → (step : ℕ) (a b : Label S) →
+    IsLabelAt is_state problem.goal step a → IsLabelAt is_state problem.goal step b → is_better problem step a b ≡ true → AnswersContinuations problem allowed step a b
+better_answers problem is_state allowed laws step a b i j h xs c = better_matched problem is_state allowed laws xs step a b i j (better_means problem step a b h) c
 
 -- Whatever continues a label ends no sooner than its bound; where it has none, nothing continues it.
 pub bound_by : {S : Type 0} (problem : Problem S) (is_state : S → ℕ → Type 0) (allowed : Activity → Bool) → IsProblem problem is_state allowed → (xs : List Activity) (k : ℕ) (l : Label S) →

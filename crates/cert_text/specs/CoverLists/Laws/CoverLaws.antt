@@ -1,5 +1,5 @@
 -- From a cover list it follows that no solution is shorter than its target.
-use Rattle.std.proofs.Common.{◌≡◌, ℕ, ◌+◌, ◌-◌, ◌≤◌, Bool, true, List, [], ◌∷◌, length, refl, sym, ◌∙◌, ap, subst, arith, inl, inr}
+use Rattle.std.proofs.Common.{◌≡◌, ℕ, ◌+◌, ◌-◌, ◌≤◌, Bool, true, List, [], ◌∷◌, length, refl, sym, ◌∙◌, ap, subst, arith, zero, suc, inl, inr}
 use Rattle.std.specs.Prelude.{Option, None, Some, unwrap_or}
 use Rattle.duty_core.specs.declared.activity.Activity.{Activity}
 use Rattle.duty_core.specs.declared.activity.Activity.TheVariants.{Drive, Serve, Wait, Off, Berth}
@@ -15,8 +15,8 @@ use Rattle.cert_text.specs.CoverLists.Problem.{Problem, departed, root_label, gr
 use Rattle.cert_text.specs.CoverLists.Cover.{IsAtLeast, IsPrunedBy, IsPruned, IsLabelAt, IsCoverList}
 use Rattle.cert_text.specs.CoverLists.Continuation.{IsAllowedFrom, departed_after, Continues, takes}
 use Rattle.cert_text.specs.CoverLists.Laws.ProblemLaws.{IsProblem}
-use Rattle.cert_text.specs.CoverLists.Laws.BetterLaws.{better_from, better_itself, later_itself, departed_idle, done_idle, grown_may, successor_by}
-use Rattle.cert_text.specs.CoverLists.Laws.ContinuationLaws.{fewer, better_continues, label_more, rest_of, bound_by}
+use Rattle.cert_text.specs.CoverLists.Laws.BetterLaws.{better_from, better_itself, later_itself, departed_idle, departed_once, done_idle, grown_may, successor_by}
+use Rattle.cert_text.specs.CoverLists.Laws.ContinuationLaws.{fewer, better_answers, label_more, rest_of, takes_more, bound_by}
 
 pub at_least_more : (target : Option ℕ) (n m : ℕ) → n ≤ m → IsAtLeast target n → IsAtLeast target m
 at_least_more None n m l h = h
@@ -36,11 +36,7 @@ pruned_departed long (Some depart) bound h = (depart, refl, h)
 -- a departure stays
 pub departed_stays : (c k : ℕ) (ys : List Activity) → departed_after (Some c) k ys ≡ Some c
 departed_stays c k [] = refl
-departed_stays c k (Drive ∷ ys) = departed_stays c (k + 1) ys
-departed_stays c k (Serve ∷ ys) = departed_stays c (k + 1) ys
-departed_stays c k (Wait ∷ ys) = departed_stays c (k + 1) ys
-departed_stays c k (Off ∷ ys) = departed_stays c (k + 1) ys
-departed_stays c k (Berth ∷ ys) = departed_stays c (k + 1) ys
+departed_stays c k (x ∷ ys) = ap (λ o. departed_after o (k + 1) ys) (departed_once c x k) ∙ departed_stays c (k + 1) ys
 
 pub departed_from : (k : ℕ) (ys : List Activity) → departed_after None k ys ≡ depart_from k ys
 departed_from k [] = refl
@@ -100,7 +96,7 @@ answer_idle problem is_state allowed laws k l x n idle ok here may follows =
       is = successor_by problem k l y (grow l k y u.0) (inr (inr q.1)) (grown_may problem k l y u.0 may_y u.1);
       better = better_from problem (k + 1) (grow l k y u.0).label (grow l k x n).label (record {
         depart = subst (λ o. later (departed l.depart y k) o ≡ true) (sym same) (later_itself (departed l.depart y k));
-        progress = done_idle l.progress y i.0 ∙ sym (done_idle l.progress x idle);
+        progress = inl (done_idle l.progress y i.0 ∙ sym (done_idle l.progress x idle));
         state = u.2;
       });
     }
@@ -113,13 +109,14 @@ answer problem is_state allowed laws k l Wait n ok here may follows = answer_idl
 answer problem is_state allowed laws k l Off n ok here may follows = answer_idle problem is_state allowed laws k l Off n refl ok here may follows
 answer problem is_state allowed laws k l Berth n ok here may follows = answer_idle problem is_state allowed laws k l Berth n refl ok here may follows
 
--- whatever continues a label of the list takes no less than the target
-pub listed_takes : {S : Type 0} (problem : Problem S) (is_state : S → ℕ → Type 0) (allowed : Activity → Bool) (starts : S → Type 0) (target : Option ℕ) (layers : List (List (Label S))) →
+-- Whatever continues a label of the list takes no less than the target. This goes by the number of the steps: what answers a continuation has as many.
+listed_takes : {S : Type 0} (problem : Problem S) (is_state : S → ℕ → Type 0) (allowed : Activity → Bool) (starts : S → Type 0) (target : Option ℕ) (layers : List (List (Label S))) →
     IsProblem problem is_state allowed → IsCoverList problem is_state starts target layers →
-    (xs : List Activity) (k : ℕ) (l : Label S) → IsOneOf (layer_at layers k) l → Continues problem allowed k l xs → IsAtLeast target (takes k l xs)
-listed_takes problem is_state allowed starts target layers laws covers [] k l o c =
+    (n : ℕ) (xs : List Activity) → length xs ≡ n → (k : ℕ) (l : Label S) → IsOneOf (layer_at layers k) l → Continues problem allowed k l xs → IsAtLeast target (takes k l xs)
+listed_takes problem is_state allowed starts target layers laws covers n [] many k l o c =
     subst (λ n. IsAtLeast target (n - unwrap_or l.depart 0)) (let e : k ≡ k + 0 = omega arith in e) (covers.finished k l o c.finishes)
-listed_takes problem is_state allowed starts target layers laws covers (x ∷ xs) k l o c =
+listed_takes problem is_state allowed starts target layers laws covers zero (x ∷ xs) many k l o c = absurd (omega arith)
+listed_takes problem is_state allowed starts target layers laws covers (suc n) (x ∷ xs) many k l o c =
     let here = covers.labels k l o in
     let may = c.goes.0 in
     let r = rest_of problem allowed k l x xs c in
@@ -127,15 +124,16 @@ listed_takes problem is_state allowed starts target layers laws covers (x ∷ xs
     let a = answer problem is_state allowed laws k l x r.next c.goes.1 here may r.follows in
     let g = grow l k a.act a.next in
     let there = label_more problem is_state allowed laws k l a.act a.next here a.may a.follows in
-    let w = better_continues problem is_state allowed laws (k + 1) g.label after there (label_more problem is_state allowed laws k l x r.next here may r.follows) a.better xs r.rest in
-    let len : k + 1 + length xs ≡ k + length (x ∷ xs) = omega arith in
-    subst (λ n. IsAtLeast target (n - unwrap_or (departed_after (departed l.depart x k) (k + 1) xs) 0)) len
-    (at_least_more target (takes (k + 1) g.label xs) (takes (k + 1) after xs) w.1 (elim (covers.answered k l o (laws.may_before k l.progress x may) g a.is) [
-      | inl off ↦ pruned_takes problem is_state allowed target laws xs (k + 1) g.label there w.0 off
+    let w = better_answers problem is_state allowed laws (k + 1) g.label after there (label_more problem is_state allowed laws k l x r.next here may r.follows) a.better xs r.rest in
+    let same = w.2 in
+    subst (IsAtLeast target) (takes_more k l x r.next xs)
+    (at_least_more target (takes (k + 1) g.label w.0) (takes (k + 1) after xs) w.3 (elim (covers.answered k l o (laws.may_before k l.progress x may) g a.is) [
+      | inl off ↦ pruned_takes problem is_state allowed target laws w.0 (k + 1) g.label there w.1 off
       | inr kept ↦
-          let v = better_continues problem is_state allowed laws (k + 1) kept.0 g.label (covers.labels (k + 1) kept.0 kept.1) there kept.2 xs w.0 in
-          at_least_more target (takes (k + 1) kept.0 xs) (takes (k + 1) g.label xs) v.1
-          (listed_takes problem is_state allowed starts target layers laws covers xs (k + 1) kept.0 kept.1 v.0)
+          let v = better_answers problem is_state allowed laws (k + 1) kept.0 g.label (covers.labels (k + 1) kept.0 kept.1) there kept.2 w.0 w.1 in
+          let long = v.2 in
+          at_least_more target (takes (k + 1) kept.0 v.0) (takes (k + 1) g.label w.0) v.3
+          (listed_takes problem is_state allowed starts target layers laws covers n v.0 (omega arith) (k + 1) kept.0 kept.1 v.1)
     ]))
 
 -- A whole way through the problem from a state that it may start in takes no less than the target of a cover list.
@@ -147,8 +145,8 @@ pub no_shorter : {S : Type 0} (problem : Problem S) (is_state : S → ℕ → Ty
 no_shorter problem is_state allowed starts target layers laws covers s start there xs marks t goes ends path =
     let c = covers.started s start in
     let root : IsLabelAt is_state problem.goal 0 (root_label s) = record { state = there; progress = omega arith; still = λ e. refl; departed = λ some. absurd (omega arith) } in
-    let w = better_continues problem is_state allowed laws 0 c.0 (root_label s) (covers.labels 0 c.0 c.1) root c.2 xs (record { goes = goes; finishes = ends; marks = marks; end = t; path = path }) in
-    let whole = at_least_more target (takes 0 c.0 xs) (takes 0 (root_label s) xs) w.1 (listed_takes problem is_state allowed starts target layers laws covers xs 0 c.0 c.1 w.0) in
+    let w = better_answers problem is_state allowed laws 0 c.0 (root_label s) (covers.labels 0 c.0 c.1) root c.2 xs (record { goes = goes; finishes = ends; marks = marks; end = t; path = path }) in
+    let whole = at_least_more target (takes 0 c.0 w.0) (takes 0 (root_label s) xs) w.3 (listed_takes problem is_state allowed starts target layers laws covers (length w.0) w.0 refl 0 c.0 c.1 w.1) in
     let z : 0 + length xs ≡ length xs = omega arith in
     subst (λ o. IsAtLeast target (length xs - unwrap_or o 0)) (departed_from 0 xs)
     (subst (λ m. IsAtLeast target (m - unwrap_or (departed_after None 0 xs) 0)) z whole)

@@ -36,4 +36,13 @@ pub record IsProblem {S : Type 0} (problem : Problem S) (is_state : S → ℕ �
   pub may_before : (k p : ℕ) (x : Activity) → problem.may k p x ≡ true → p < problem.goal
   -- where one idle activity is allowed, each is
   pub may_idle : (k p : ℕ) (x y : Activity) → idles x ≡ true → idles y ≡ true → problem.may k p x ≡ true → problem.may k p y ≡ true
+  -- where the tour allows to idle, each idle activity is allowed
+  pub idles_there : (k p : ℕ) (x : Activity) → problem.may_idle p ≡ true → idles x ≡ true → problem.may k p x ≡ true
+  -- the rest by which a label waits
+  pub rest : Activity
+  pub rest_idle : idles rest ≡ true
+  pub rest_allowed : allowed rest ≡ true
+  -- where resting is safe, it leads for each successor by an allowed activity to a state that covers it, where resting is still safe
+  pub ahead_rests : (a : S) (k : ℕ) (x : Activity) (n : Next S) → is_state a k → problem.ahead a ≡ true → allowed x ≡ true → IsOneOf (problem.nexts a k x) n →
+      (u : Next S) × IsOneOf (problem.nexts a k rest) u × (problem.ahead u.state ≡ true) × (problem.covers u.state n.state (k + 1) ≡ true)
   pub bounded : IsBound problem is_state allowed problem.bound

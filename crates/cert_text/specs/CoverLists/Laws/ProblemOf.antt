@@ -15,13 +15,14 @@ use Rattle.duty_core.specs.Params.{unit_minutes, allows}
 use Rattle.rule_core.specs.declared.nexts.Next.{Next}
 use Rattle.rule_core.specs.Reach.{idle_list, IsOneOf, Reaches, IsAnswered}
 use Rattle.rule_core.specs.Laws.ReachLaws.{reached_state}
+use Rattle.rule_core.specs.TourRest.{tour_rest}
 use Rattle.rule_core.specs.Machine.{Machine}
 use Rattle.rule_core.specs.Book.{IsBook}
 use Rattle.tour_model.specs.declared.tour.Tour.{Tour}
 use Rattle.tour_model.specs.declared.stop.Stop.{Stop}
 use Rattle.tour_model.specs.declared.piece.Piece.TheVariants as piece
 use Rattle.tour_model.specs.Tour.{grids_of, IsStop, IsTour}
-use Rattle.tour_model.specs.Word.{service_word, word_from, word_length}
+use Rattle.tour_model.specs.Word.{service_word, word_from, word_length, may_do, may_idle}
 use Rattle.tour_model.specs.Way.{progresses}
 use Rattle.tour_model.specs.Laws.WayLaws.{may_before, may_idle_all}
 use Rattle.tour_model.specs.Eta.{eta_of}
@@ -73,11 +74,14 @@ step_some tour t = (grid_units tour.params tour.grid t.grid).some
 pub step_few : (tour : Tour) → IsTour tour → step_units tour ≤ 30
 step_few tour t = (grid_units tour.params tour.grid t.grid).few
 
+-- the minute at which the units of a step end
+units_end : (tour : Tour) → IsTour tour → (k : ℕ) → minute_of tour k + unit_minutes tour.params * step_units tour ≡ minute_of tour (k + 1)
+units_end tour t k = ap (λ n. minute_of tour k + n) (step_minutes tour t) ∙ (let f : minute_of tour k + tour.grid ≡ minute_of tour (k + 1) = omega arith in f)
+
 -- the minute at which a path of the units of a step ends
 pub minute_more : (tour : Tour) → IsTour tour → (k : ℕ) (x : Activity) → minute_of tour k + unit_minutes tour.params * length (replicate (step_units tour) x) ≡ minute_of tour (k + 1)
 minute_more tour t k x =
-    ap (λ m. minute_of tour k + unit_minutes tour.params * m) (length-replicate (step_units tour) x)
-    ∙ (ap (λ m. minute_of tour k + m) (step_minutes tour t) ∙ (let e : minute_of tour k + tour.grid ≡ minute_of tour (k + 1) = omega arith in e))
+    ap (λ m. minute_of tour k + unit_minutes tour.params * m) (length-replicate (step_units tour) x) ∙ units_end tour t k
 
 -- A path from one state that ends in a state that covers t.
 pub record Follows {S : Type 0} (unit : ℕ) (m : Machine S) (a : S) (at : ℕ) (xs : List Activity) (t : S) : Type 0 where
@@ -124,8 +128,61 @@ step_tries : {S : Type 0} (tour : Tour) (m : Machine S) → IsBook tour.params m
 step_tries tour m law i s k x t there d u h =
     let few : step_units tour ≤ LONGEST_HISTORY = (let l = step_few tour i in omega arith) in
     let q = law.idles_cover s (minute_of tour k) x (step_units tour) t there (step_some tour i) few d u h in
-    let e : minute_of tour k + unit_minutes tour.params * step_units tour ≡ minute_of tour (k + 1) = ap (λ n. minute_of tour k + n) (step_minutes tour i) ∙ (let f : minute_of tour k + tour.grid ≡ minute_of tour (k + 1) = omega arith in f) in
-    (q.0, q.1, (q.2.0, q.2.1, subst (λ at. m.covers q.2.0.state t.state at ≡ true) e q.2.2))
+    (q.0, q.1, (q.2.0, q.2.1, subst (λ at. m.covers q.2.0.state t.state at ≡ true) (units_end tour i k) q.2.2))
+
+-- where the tour allows to idle, it allows each idle activity
+idles_there : (tour : Tour) (k p : ℕ) (x : Activity) → may_idle tour p ≡ true → idles x ≡ true → may_do tour k p x ≡ true
+idles_there tour k p x h i = may_idle_all tour k p Wait x refl i h
+
+rest_idle : (params : Params) → idles (tour_rest params) ≡ true
+rest_idle (UsProperty true days day_start) = refl
+rest_idle (UsProperty false days day_start) = refl
+rest_idle (Canada true way cycle day_start) = refl
+rest_idle (Canada false way cycle day_start) = refl
+rest_idle Hvnl = refl
+
+rest_allowed : (params : Params) → allows params (tour_rest params) ≡ true
+rest_allowed (UsProperty true days day_start) = refl
+rest_allowed (UsProperty false days day_start) = refl
+rest_allowed (Canada true way cycle day_start) = refl
+rest_allowed (Canada false way cycle day_start) = refl
+rest_allowed Hvnl = refl
+
+-- Rest from one state for so many units that ends in a state where resting is still safe, and that covers t.
+record RestsFor {S : Type 0} (params : Params) (m : Machine S) (a : S) (at n : ℕ) (t : S) : Type 0 where
+  marks : List Mark
+  end : S
+  path : Reaches (unit_minutes params) m.nexts a at (replicate n (tour_rest params)) marks end
+  ahead : m.ahead end ≡ true
+  over : m.covers end t (at + unit_minutes params * n) ≡ true
+
+-- a state where resting is safe, and that covers another, rests while the other does anything
+rests_for : {S : Type 0} (params : Params) (m : Machine S) → IsBook params m →
+    (n : ℕ) (a b : S) (at : ℕ) (x : Activity) (marks : List Mark) (t : S) → m.is_state a at → m.is_state b at → m.ahead a ≡ true → m.covers a b at ≡ true → allows params x ≡ true →
+    Reaches (unit_minutes params) m.nexts b at (replicate n x) marks t → RestsFor params m a at n t
+rests_for params m law zero a b at x marks t i j h c u r =
+    let e : at ≡ at + unit_minutes params * 0 = omega arith in
+    record { marks = []; end = a; path = (refl, refl); ahead = h; over = subst (λ k. m.covers a t k ≡ true) e (subst (λ s. m.covers a s at ≡ true) r.0 c) }
+rests_for params m law (suc n) a b at x marks t i j h c u r =
+    let unit = unit_minutes params in
+    let s = law.lasts.simulation a b at x r.0 i j c u r.1 in
+    let w = law.rests.ahead_rests a at x s.0 i h u s.1 in
+    let is_w = law.lasts.next_is_state a at (tour_rest params) w.0 i w.1 in
+    let is_r = law.lasts.next_is_state b at x r.0 j r.1 in
+    let over = law.lasts.covers_on w.0.state s.0.state r.0.state (at + unit) is_w (law.lasts.next_is_state a at x s.0 i s.1) is_r w.3 s.2 in
+    let q = rests_for params m law n w.0.state r.0.state (at + unit) x r.2 t is_w is_r w.2 over u r.4 in
+    let e : at + unit + unit * n ≡ at + unit * suc n = omega arith in
+    record { marks = option_to_list w.0.mark ++ q.marks; end = q.end; path = (w.0, w.1, q.marks, refl, q.path); ahead = q.ahead; over = subst (λ k. m.covers q.end t k ≡ true) e q.over }
+
+step_rests : {S : Type 0} (tour : Tour) (m : Machine S) → IsBook tour.params m → IsTour tour →
+    (a : S) (k : ℕ) (x : Activity) (n : Next S) → m.is_state a (minute_of tour k) → m.ahead a ≡ true → allows tour.params x ≡ true → IsOneOf (m.advances a (minute_of tour k) x (step_units tour)) n →
+    (u : Next S) × IsOneOf (m.advances a (minute_of tour k) (tour_rest tour.params) (step_units tour)) u × (m.ahead u.state ≡ true) × (m.covers u.state n.state (minute_of tour (k + 1)) ≡ true)
+step_rests tour m law t a k x n i h u o =
+    let each = step_units tour in
+    let at = minute_of tour k in
+    let q = rests_for tour.params m law each a a at x (option_to_list n.mark) n.state i i h (law.covers_itself a at i) u (law.advances_reach a at x each n i o) in
+    let s = law.advances_all a at (tour_rest tour.params) each q.marks q.end i q.path in
+    (s.0, s.1, subst (λ v. m.ahead v ≡ true) (sym s.2) q.ahead, subst (λ v. m.covers v n.state (minute_of tour (k + 1)) ≡ true) (sym s.2) (subst (λ e. m.covers q.end n.state e ≡ true) (units_end tour t k) q.over))
 
 -- a tour has something to do
 service_some : (number n : ℕ) → 1 ≤ n → 0 < length (service_word number n)
@@ -179,6 +236,11 @@ problem_laws tour m law t = record {
   works_allowed = works_allowed tour.params;
   may_before = may_before tour;
   may_idle = may_idle_all tour;
+  idles_there = idles_there tour;
+  rest = tour_rest tour.params;
+  rest_idle = rest_idle tour.params;
+  rest_allowed = rest_allowed tour.params;
+  ahead_rests = step_rests tour m law t;
   bounded = record {
     full = λ k l ends. ap (eta_of tour k) ends ∙ eta_full tour k;
     before = λ k l x n e here may ok o by. (let q = eta_before tour k l.progress x e may by in record { at = q.0; is = q.1; by = q.2 });
