@@ -1,5 +1,5 @@
 //! Where the labels of each progress stand in a layer.
-ghost use Rattle.std.specs.Prelude.{◌≡◌, ℕ, ◌<◌, ◌≤◌, ◌++◌, ◌∷◌, [], length, Some, slice_get, OnOk, OnErr};
+ghost use Rattle.std.specs.Prelude.{◌≡◌, ℕ, ◌<◌, ◌≤◌, ◌^◌, ◌++◌, ◌∷◌, [], length, Some, slice_get, OnOk, OnErr};
 ghost use Rattle.label_state.specs.Buckets.{places_in, place_if, AreUpTo};
 
 use duty_core::NoMemory;
@@ -14,7 +14,8 @@ pub struct Bucket {
     pub(crate) places: Vec<u32>,
 }
 
-/// A bucket for each progress. Contracts see their list.
+/// A bucket for each progress, of which there are no more than a number can name. Contracts see
+/// their list.
 #[derive(Drop)]
 pub struct Buckets {
     alloc: Global,
@@ -22,12 +23,14 @@ pub struct Buckets {
 }
 
 impl Model for Buckets {
-    ghost use Rattle.std.specs.Prelude.{List};
+    ghost use Rattle.std.specs.Prelude.{◌≤◌, ◌^◌, List, length};
     ghost use Rattle.label_state.specs.declared.buckets.Bucket.{Bucket};
 
     ghost Value = { List Bucket };
 
     ghost view = { λ b. b.buckets.items };
+
+    ghost invariant = { λ b. length b.buckets.items ≤ 2 ^ 32 };
 }
 
 impl Buckets {
@@ -67,6 +70,14 @@ impl Buckets {
         self.reach(progress)?;
         let bucket = &mut self.buckets[progress as usize];
         bucket.note(depth, place)
+    }
+
+    /// The number of buckets: each progress of which a place is noted is less.
+    pub(crate) fn count(&self) -> usize
+        ensures count { result ≡ length self.now }
+        ensures few { length self.now ≤ 2 ^ 32 }
+    {
+        self.buckets.len()
     }
 
     /// The places that are noted of labels of this progress, in the last of so many layers.

@@ -1,5 +1,5 @@
 //! The layers of a search.
-ghost use Rattle.std.specs.Prelude.{◌≡◌, ◌<◌, ◌≤◌, [], ◌∷◌, ◌++◌, length, OnOk, OnErr};
+ghost use Rattle.std.specs.Prelude.{◌≡◌, ℕ, ◌<◌, ◌≤◌, ◌^◌, [], ◌∷◌, ◌++◌, length, OnOk, OnErr};
 ghost use Rattle.tour_model.specs.Layer.{layer_at};
 ghost use Rattle.label_state.specs.declared.layers.TheConstants.{LAYER_LIMIT};
 ghost use Rattle.label_state.specs.Layers.{last_layer, with_kept, label_count};
@@ -99,6 +99,14 @@ impl<S: Drop> Layers<S> {
         ensures { result.now ≡ places_of progress (last_layer self.now) }
     {
         self.by_progress.places(self.layers.len() as u32, progress)
+    }
+
+    /// A number that is above the progress of each label of the last layer.
+    pub fn progress_end(&self) -> usize
+        ensures above { (p : ℕ) → result ≤ p → places_of p (last_layer self.now) ≡ [] }
+        ensures few { result ≤ 2 ^ 32 }
+    {
+        self.by_progress.count()
     }
 
     /// The layer of the step `k`.

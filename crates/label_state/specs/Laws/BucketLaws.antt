@@ -44,8 +44,14 @@ rising_first p i ks places h m zero l u = absurd (omega arith)
 rising_first p i ks places h zero (suc n) l u = let q = h.there n (omega arith) in let e = q.1 in omega arith
 rising_first p i ks places h (suc m) (suc n) l u = h.rising m n (omega arith) (omega arith)
 
-places_first : {S : Type 0} (p i : ℕ) (k : Kept S) (ks : List (Kept S)) (places : List ℕ) → ArePlaces p (suc i) ks places → ArePlaces p i (k ∷ ks) (i ∷ places)
-places_first p i k ks places h = record { there = there_first p i k ks places h; all = all_first p i k ks places h; rising = rising_first p i ks places h }
+own_first : {S : Type 0} (p i : ℕ) (k : Kept S) (ks : List (Kept S)) (places : List ℕ) → nat_eq k.label.progress p ≡ true → ArePlaces p (suc i) ks places → (m j : ℕ) (x : Kept S) → m < length (i ∷ places) → get_or (i ∷ places) m 0 ≡ i + j → slice_get (k ∷ ks) j ≡ Some x → x.label.progress ≡ p
+own_first p i k ks places e h zero zero x l f g = let same : k ≡ x = (let z : Some k ≡ Some x = g in cc) in subst (λ y. y.label.progress ≡ p) same (grind (arith, nat_tests))
+own_first p i k ks places e h zero (suc j) x l f g = absurd (omega arith)
+own_first p i k ks places e h (suc m) zero x l f g = absurd (let q = h.there m (omega arith) in let u = q.1 in omega arith)
+own_first p i k ks places e h (suc m) (suc j) x l f g = h.own m j x (omega arith) (omega arith) g
+
+places_first : {S : Type 0} (p i : ℕ) (k : Kept S) (ks : List (Kept S)) (places : List ℕ) → nat_eq k.label.progress p ≡ true → ArePlaces p (suc i) ks places → ArePlaces p i (k ∷ ks) (i ∷ places)
+places_first p i k ks places e h = record { there = there_first p i k ks places h; all = all_first p i k ks places h; own = own_first p i k ks places e h; rising = rising_first p i ks places h }
 
 -- ---- a label of another progress before them
 
@@ -56,18 +62,23 @@ all_other p i k ks places d h zero x g e =
     absurd (let z : true ≡ false = sym (equal_test k.label.progress p (ap (λ y. y.label.progress) same ∙ e)) ∙ d in cc)
 all_other p i k ks places d h (suc j) x g e = let q = h.all j x g e in let u = q.1 in let f = q.2 in (q.0, u, omega arith)
 
+own_other : {S : Type 0} (p i : ℕ) (k : Kept S) (ks : List (Kept S)) (places : List ℕ) → ArePlaces p (suc i) ks places → (m j : ℕ) (x : Kept S) → m < length places → get_or places m 0 ≡ i + j → slice_get (k ∷ ks) j ≡ Some x → x.label.progress ≡ p
+own_other p i k ks places h m zero x l f g = absurd (let q = h.there m l in let u = q.1 in omega arith)
+own_other p i k ks places h m (suc j) x l f g = h.own m j x l (omega arith) g
+
 places_other : {S : Type 0} (p i : ℕ) (k : Kept S) (ks : List (Kept S)) (places : List ℕ) → nat_eq k.label.progress p ≡ false → ArePlaces p (suc i) ks places → ArePlaces p i (k ∷ ks) places
 places_other p i k ks places d h = record {
   there = λ m l. (let q = h.there m l in let e = q.1 in let u = q.2 in (suc q.0, omega arith, omega arith));
   all = all_other p i k ks places d h;
+  own = own_other p i k ks places h;
   rising = h.rising;
 }
 
 -- What the places tell.
 pub are_places : {S : Type 0} (p i : ℕ) (layer : List (Kept S)) → ArePlaces p i layer (places_from p i layer)
 unfolding places_from
-are_places p i [] = record { there = λ m l. absurd (omega arith); all = λ j k g e. absurd (let z : None ≡ Some k = g in cc); rising = λ m n l u. absurd (omega arith) }
+are_places p i [] = record { there = λ m l. absurd (omega arith); all = λ j k g e. absurd (let z : None ≡ Some k = g in cc); own = λ m j k l. absurd (omega arith); rising = λ m n l u. absurd (omega arith) }
 are_places p i (k ∷ ks) = elim (cases_Bool (nat_eq k.label.progress p)) [
-  | inl y ↦ subst (ArePlaces p i (k ∷ ks)) (ap (λ b. if b then i ∷ places_from p (suc i) ks else places_from p (suc i) ks) (sym y)) (places_first p i k ks (places_from p (suc i) ks) (are_places p (suc i) ks))
+  | inl y ↦ subst (ArePlaces p i (k ∷ ks)) (ap (λ b. if b then i ∷ places_from p (suc i) ks else places_from p (suc i) ks) (sym y)) (places_first p i k ks (places_from p (suc i) ks) y (are_places p (suc i) ks))
   | inr y ↦ subst (ArePlaces p i (k ∷ ks)) (ap (λ b. if b then i ∷ places_from p (suc i) ks else places_from p (suc i) ks) (sym y)) (places_other p i k ks (places_from p (suc i) ks) y (are_places p (suc i) ks))
 ]

@@ -6,4 +6,5 @@ use Rattle.label_state.specs.declared.kept.Kept.{Kept}
 pub record ArePlaces {S : Type 0} (p i : ℕ) (layer : List (Kept S)) (places : List ℕ) : Type 0 where
   pub there : (m : ℕ) → m < length places → (j : ℕ) × (slice_index_or places m 0 ≡ i + j) × (j < length layer)
   pub all : (j : ℕ) (k : Kept S) → slice_get layer j ≡ Some k → k.label.progress ≡ p → (m : ℕ) × (m < length places) × (slice_index_or places m 0 ≡ i + j)
+  pub own : (m j : ℕ) (k : Kept S) → m < length places → slice_index_or places m 0 ≡ i + j → slice_get layer j ≡ Some k → k.label.progress ≡ p
   pub rising : (m n : ℕ) → m < n → n < length places → slice_index_or places m 0 < slice_index_or places n 0

@@ -1,4 +1,4 @@
-use Rattle.std.proofs.Common.{refl, sym, ◌∙◌, ap, subst, arith}
+use Rattle.std.proofs.Common.{[], ◌∷◌, length, refl, sym, ◌∙◌, ap, subst, arith, length-append}
 use Rattle.std.specs.Prelude.{slice_get}
 use Rattle.label_state.specs.declared.buckets.Bucket.{Bucket}
 use Rattle.label_state.specs.Buckets.{places_in, AreUpTo}
@@ -6,7 +6,7 @@ use Rattle.label_state.proofs.BucketSteps.{push_same, push_up}
 use Rattle.label_state.proofs.buckets.Buckets.reach.Goals as goal
 
 pub loop-self-init : goal.loop-self-init
-loop-self-init c = record { same = λ d p. refl; depths = λ d h. h }
+loop-self-init c = record { same = λ d p. refl; depths = λ d h. h; few = c.self.invariant }
 
 pub loop-self-preserved : goal.loop-self-preserved
 loop-self-preserved c =
@@ -15,6 +15,7 @@ loop-self-preserved c =
     record {
       same = λ d p. ap (λ xs. places_in d (slice_get xs p)) c.in_ok-push.ensures.items ∙ (push_same d bs b p c.new.ensures.items ∙ c.loop-self.invariant.same d p);
       depths = λ d h. subst (AreUpTo d) (sym c.in_ok-push.ensures.items) (push_up d bs b (omega arith) (c.loop-self.invariant.depths d h));
+      few = (let l = ap length c.in_ok-push.ensures.items in let m = length-append bs (b ∷ []) in let lt = c.loop-self-test.true in omega arith);
     }
 
 pub returns-in_err-push-clause-depths : goal.returns-in_err-push-clause-depths
