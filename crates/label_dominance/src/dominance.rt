@@ -1,19 +1,18 @@
 //! Which labels are kept.
-ghost use Rattle.std.specs.Prelude.{◌≡◌, ℕ, ◌+◌, ◌<◌, ◌≤◌, length, IfOk, OnErr, IsTrue};
+ghost use Rattle.std.specs.Prelude.{◌≡◌, ℕ, ◌+◌, ◌<◌, ◌≤◌, true, length, IfOk, OnErr, IsTrue};
 ghost use Rattle.duty_core.specs.Params.{allows};
 ghost use Rattle.tour_model.specs.declared.limits.TheConstants.{STEP_LIMIT};
 ghost use Rattle.tour_model.specs.Tour.{IsTour};
 ghost use Rattle.tour_model.specs.Word.{word_length};
 ghost use Rattle.label_state.specs.declared.layers.TheConstants.{LAYER_LIMIT};
-ghost use Rattle.label_state.specs.Buckets.{places_of};
 ghost use Rattle.label_state.specs.Layers.{last_step, last_layer, label_count, labels_of};
-ghost use Rattle.cert_text.specs.CoverLists.Problem.{is_better, later};
+ghost use Rattle.cert_text.specs.CoverLists.Problem.{is_better};
 ghost use Rattle.cert_text.specs.CoverLists.Planning.{problem_of, minute_of, state_at};
 ghost use Rattle.cert_text.specs.CoverLists.Cover.{IsLabelAt};
 ghost use Rattle.cert_text.specs.CoverLists.Continuation.{AnswersContinuations};
-ghost use Rattle.label_dominance.specs.Offers.{AreStatesAt, IsCoverSought, IsOffered};
+ghost use Rattle.label_dominance.specs.Offers.{AreStatesAt, may_keep_up, AreRising, MayKeepUp, IsPlaceSought, IsCoverSought, IsOffered};
 
-use cert_text::minute_at;
+use cert_text::{departs_later, may_idle_after, minute_at};
 use duty_core::NoMemory;
 use label_state::{Kept, Layers};
 use rule_core::RuleBook;
@@ -28,19 +27,17 @@ pub enum Offered {
     Covered { index: u32 },
 }
 
-/// Whether the first departure is not earlier. None, for not yet, is later than all.
-fn departs_later(a: Option<u32>, b: Option<u32>) -> bool
-    ensures { result ≡ later a b }
+/// Whether a label that has done so much may keep up with one that has done this `other` much: it
+/// has done as much, or more and may idle where it is.
+fn may_keep_up(tour: &Tour, progress: u32, other: u32) -> bool
+    requires { IsTour tour.now }
+    ensures { result ≡ may_keep_up tour.now progress other }
 {
-    match (a, b) {
-        (None, _) => true,
-        (Some(_), None) => false,
-        (Some(x), Some(y)) => y <= x,
-    }
+    progress == other || (other < progress && may_idle_after(tour, progress))
 }
 
-/// Whether the first label departs no earlier, has done as much, and has a state that covers the
-/// other's.
+/// Whether the first label, which may keep up with the second, stands for it: it departs no
+/// earlier, has done as much or can rest until the other has, and its state covers the other's.
 fn stands_for<B: RuleBook>(
     book: &B,
     tour: &Tour,
@@ -52,16 +49,18 @@ fn stands_for<B: RuleBook>(
     requires a { (B.machine book.now).is_state a.now.state (minute_of tour.now step) }
     requires b { (B.machine book.now).is_state b.now.state (minute_of tour.now step) }
     requires step { step < STEP_LIMIT }
+    requires keeps_up { may_keep_up tour.now a.now.progress b.now.progress ≡ true }
     ensures { result ≡ is_better (problem_of tour.now (B.machine book.now)) step a.now b.now }
 {
-    a.progress == b.progress
-        && departs_later(a.depart, b.depart)
+    departs_later(a.depart, b.depart)
+        && (a.progress == b.progress || book.ahead(&a.state))
         && book.covers(&a.state, &b.state, minute_at(tour, step))
 }
 
-/// Whether the first label may stand for the second at this step: it departs no earlier, has done
-/// as much, and its state covers the other's. Then each continuation of the second is answered by
-/// one of the first that ends at the same step and takes no more.
+/// Whether the first label may stand for the second at this step: it departs no earlier, its state
+/// covers the other's, and it has done as much, or more and can rest until the other has done as
+/// much. Then each continuation of the second is answered by one of the first that ends at the same
+/// step and takes no more.
 pub fn better<B: RuleBook>(
     book: &B,
     tour: &Tour,
@@ -79,12 +78,12 @@ pub fn better<B: RuleBook>(
         IsLabelAt (state_at tour.now (B.machine book.now)) (word_length tour.now) step b.now →
         AnswersContinuations (problem_of tour.now (B.machine book.now)) (allows tour.now.params) step a.now b.now }
 {
-    stands_for(book, tour, a, b, step)
+    may_keep_up(tour, a.progress, b.progress) && stands_for(book, tour, a, b, step)
 }
 
-/// The place of the first label of the layer that is better than this one. Only the labels of the
-/// same progress, at these places, are looked at.
-fn first_cover<B: RuleBook>(
+/// The first of these places at which a label is better than this one. The labels there may keep up
+/// with it, and places past the end have none.
+fn first_among<B: RuleBook>(
     book: &B,
     tour: &Tour,
     layer: &[Kept<B::State>],
@@ -93,19 +92,52 @@ fn first_cover<B: RuleBook>(
     step: u32,
 ) -> Option<u32>
     requires tour { IsTour tour.now }
-    requires params { (B.machine book.now).params ≡ tour.now.params }
     requires layer { AreStatesAt (state_at tour.now (B.machine book.now)) step (labels_of layer.now) }
     requires label { (B.machine book.now).is_state label.now.state (minute_of tour.now step) }
     requires step { step < STEP_LIMIT }
-    requires places { places.now ≡ places_of label.now.progress layer.now }
-    ensures { IsCoverSought (problem_of tour.now (B.machine book.now)) step (labels_of layer.now) label.now result }
+    requires rising { AreRising places.now }
+    requires keep_up { MayKeepUp tour.now layer.now places.now label.now }
+    ensures { IsPlaceSought (problem_of tour.now (B.machine book.now)) step layer.now places.now label.now result }
 {
     for place in places {
-        if better(book, tour, &layer[*place as usize].label, label, step) {
+        let kept = layer.get(*place as usize)?;
+        if stands_for(book, tour, &kept.label, label, step) {
             return Some(*place);
         }
     }
     None
+}
+
+/// The place of the first label of the last layer that is better than this one. The labels that
+/// have done as much are looked at, and those that have done more where the tour allows to idle,
+/// as far as they stand before the first that is found.
+fn first_cover<B: RuleBook>(
+    book: &B,
+    tour: &Tour,
+    layers: &Layers<B::State>,
+    label: &Label<B::State>,
+) -> Option<u32>
+    requires tour { IsTour tour.now }
+    requires some { 0 < length layers.now }
+    requires layer { AreStatesAt (state_at tour.now (B.machine book.now)) (last_step layers.now) (labels_of (last_layer layers.now)) }
+    requires label { (B.machine book.now).is_state label.now.state (minute_of tour.now (last_step layers.now)) }
+    ensures { IsCoverSought (problem_of tour.now (B.machine book.now)) (last_step layers.now) (labels_of (last_layer layers.now)) label.now result }
+{
+    let step = layers.depth() - 1;
+    let mut before = layers.layer(step);
+    let mut first = None;
+    for progress in label.progress as usize..layers.progress_end() {
+        let progress = progress as u32;
+        let places = layers.places(progress);
+        if places.is_empty() || !may_keep_up(tour, progress, label.progress) {
+            continue;
+        }
+        if let Some(place) = first_among(book, tour, before, places, label, step) {
+            before = &before[..place as usize];
+            first = Some(place);
+        }
+    }
+    first
 }
 
 /// Offers a label to the last layer: it is added at its end, unless one that is there is better.
@@ -125,9 +157,7 @@ pub fn offer<B: RuleBook>(
     ensures offered { IfOk result (IsOffered (problem_of tour.now (B.machine book.now)) layers.old kept layers.new) }
     ensures err { OnErr result (layers.new ≡ layers.old) }
 {
-    let step = layers.depth() - 1;
-    let places = layers.places(kept.label.progress);
-    if let Some(index) = first_cover(book, tour, layers.layer(step), places, &kept.label, step) {
+    if let Some(index) = first_cover(book, tour, layers, &kept.label) {
         return Ok(Offered::Covered { index });
     }
     layers.keep(kept)?;

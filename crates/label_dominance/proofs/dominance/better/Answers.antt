@@ -6,8 +6,8 @@ use Rattle.cert_text.specs.CoverLists.Laws.ProblemOf.{problem_laws}
 use Rattle.cert_text.specs.CoverLists.Laws.ContinuationLaws.{better_answers}
 use Rattle.label_dominance.proofs.dominance.better.Goals as goal
 
-pub returns-clause-answers : goal.returns-clause-answers
-returns-clause-answers g c holds i j =
+pub returns-then-may_keep_up-clause-answers : goal.returns-then-may_keep_up-clause-answers
+returns-then-may_keep_up-clause-answers g c holds i j =
     let book = c.args.book.now in
     let tour = c.args.tour.now in
     let m = g.B.RuleBook.machine book in
