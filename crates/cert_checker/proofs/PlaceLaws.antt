@@ -1,19 +1,19 @@
 -- Labels and their places, by progress.
-use Rattle.std.proofs.Common.{◌≡◌, ◌==◌, ◌&&◌, ℕ, ◌+◌, ◌%◌, ◌<◌, ◌≤◌, Bool, true, false, List, [], ◌∷◌, ◌++◌, length, take, get_or, refl, sym, ◌∙◌, ap, subst, arith, inl, inr, Decides}
+use Rattle.std.proofs.Common.{◌≡◌, ℕ, ◌+◌, ◌-◌, ◌*◌, ◌/◌, ◌%◌, ◌<◌, ◌≤◌, min, Bool, true, false, List, [], ◌∷◌, ◌++◌, length, take, get_or, refl, sym, ◌∙◌, ap, subst, arith, inl, inr, Decides}
 use Rattle.std.specs.Prelude.{zero, suc, Option, None, Some, slice_set}
 use Rattle.std.specs.Global.{Vec}
 use Rattle.std.specs.Option.{option_to_list}
-use Rattle.std.proofs.Math.Nat.{mod-lt}
+use Rattle.std.proofs.Math.Nat.{mod-lt, div-add-mod, add-mul-mod_self_left}
 use Rattle.std.proofs.lemmas.Bool.{cases_lt, cases_eq}
-use Rattle.std.proofs.lemmas.Bool.Decides.{nat_tests}
 use Rattle.std.proofs.lemmas.List.{take_more, take_all, length-map, length-set, map-set, get_or-map, get_or_past, get_or-set_same, get_or-set_other, get_or_default, get_or-take, length-take-le, flat_map_more}
 use Rattle.rule_core.specs.Reach.{IsOneOf}
 use Rattle.rule_core.specs.Laws.OneOf.{one_of-append, one_of-append_left, one_of-append_right, one_of-flat_map, one_of_flat_map, one_of-get_or}
 use Rattle.tour_model.specs.declared.label.Label.{Label}
-use Rattle.cert_text.specs.CoverLists.Problem.{Problem, is_better, later}
+use Rattle.cert_text.specs.CoverLists.Problem.{Problem, is_better}
 use Rattle.cert_text.specs.CoverLists.Cover.{IsCovered, NoneCovers}
+use Rattle.cert_text.specs.CoverLists.Laws.BetterLaws.{better_means}
 use Rattle.cert_checker.specs.Parsed.{there, AreStatesIn}
-use Rattle.cert_checker.specs.Places.{plain, label_at, labels_at, with_place, ArePlaced, ArePlacedUpTo, HasPlaces}
+use Rattle.cert_checker.specs.Places.{plain, label_at, labels_at, with_place, ArePlaced, ArePlacedUpTo, HasPlaces, HaveDoneLess, IsProgressEnd}
 use Rattle.cert_checker.proofs.ParsedLaws.{in_option, option_in, none_covered}
 
 -- ---- the lists of places
@@ -100,15 +100,16 @@ placed_all os n lists le h = record { same = h.same; placed = λ i l lt at. h.pl
 
 -- the list of a progress has the places of its labels
 pub has_places : {S : Type 0} (os : List (Option (Label S))) (vs : List (Vec ℕ)) (p n : ℕ) (d : Vec ℕ) → ArePlaced os (plain vs) → 0 < length os → n ≡ length vs → d ≡ get_or vs (p % n) d → HasPlaces os p d.items
-has_places os vs p n d h some e read i l lt at same =
+has_places os vs p n d h some e read i l lt at same_class =
     let lists = plain vs in
+    let same : l.progress % length lists ≡ p % length lists = subst (λ k. l.progress % k ≡ p % k) (sym h.same) same_class in
     let k : length lists ≡ length vs = length-map vs (λ v. v.items) in
     let all = h.same in
     let inside : 0 < length vs = omega arith in
     let in_lists : p % n < length vs = subst (λ m. p % m < length vs) (sym e) (mod-lt p inside) in
     let at_n : p % length lists ≡ p % n = ap (λ m. p % m) (k ∙ sym e) in
     let list : get_or lists (p % length lists) [] ≡ d.items = ap (λ j. get_or lists j []) at_n ∙ (plain_at vs (p % n) d in_lists ∙ ap (λ v. v.items) (sym read)) in
-    subst (λ ys. IsOneOf ys i) list (subst (λ q. IsOneOf (get_or lists (q % length lists) []) i) same (h.placed i l lt at))
+    subst (λ ys. IsOneOf ys i) list (subst (λ j. IsOneOf (get_or lists j []) i) same (h.placed i l lt at))
 
 -- ---- looking among places
 
@@ -165,35 +166,89 @@ place_covers problem step os places i l o c = (c.0, one_of_flat_map (label_at os
 pub no_places : {S : Type 0} (problem : Problem S) (step : ℕ) (os : List (Option (Label S))) (places : List ℕ) (n : ℕ) (l : Label S) → length places ≤ n → NoneCovers problem step (labels_at os (take n places)) l → IsCovered problem step (labels_at os places) l → ⊥
 no_places problem step os places n l le h c = none_covered problem step (labels_at os places) l (subst (λ ps. NoneCovers problem step (labels_at os ps) l) (take_all n places le) h) c
 
--- a better label has done as much
-both : (a b : Bool) → (a && b) ≡ true → (a ≡ true) × (b ≡ true)
-both true true e = (refl, refl)
-both true false e = absurd (let f : false ≡ true = e in cc)
-both false b e = absurd (let f : false ≡ true = e in cc)
+-- ---- the end of the progresses
 
-equal_of : (a b : ℕ) → (a == b) ≡ true → a ≡ b
-equal_of a b e = grind (arith, nat_tests)
+-- no label at this place
+pub less_none : {S : Type 0} (os : List (Option (Label S))) (n : ℕ) (o : Option (Label S)) (end : ℕ) → n < length os → o ≡ get_or os n o → o ≡ None → HaveDoneLess os n end → HaveDoneLess os (n + 1) end
+less_none os n o end lt e none h i l less at = elim (cases_lt i n) [
+  | inl before ↦ h i l before at
+  | inr thereafter ↦ (
+      let here : n ≡ i = omega arith in
+      let absent : get_or os n None ≡ None = sym (get_or_default os n o None lt) ∙ (sym e ∙ none) in
+      let f : None ≡ Some l = sym absent ∙ subst (λ k. get_or os k None ≡ Some l) (sym here) at in
+      absurd cc
+      )
+]
 
-same_progress : {S : Type 0} (problem : Problem S) (step : ℕ) (a b : Label S) → is_better problem step a b ≡ true → a.progress ≡ b.progress
-same_progress problem step a b e = equal_of a.progress b.progress (both (later a.depart b.depart) (a.progress == b.progress) (both (later a.depart b.depart && (a.progress == b.progress)) (problem.covers a.state b.state step) e).0).1
+-- the label at this place
+pub less_some : {S : Type 0} (os : List (Option (Label S))) (n : ℕ) (o : Option (Label S)) (m : Label S) (end more : ℕ) → n < length os → o ≡ get_or os n o → o ≡ Some m → end ≤ more → m.progress < more → HaveDoneLess os n end → HaveDoneLess os (n + 1) more
+less_some os n o m end more lt e some grows within h i l less at = elim (cases_lt i n) [
+  | inl before ↦ (let u = h i l before at in omega arith)
+  | inr thereafter ↦ (
+      let here : n ≡ i = omega arith in
+      let is_m : get_or os n None ≡ Some m = sym (get_or_default os n o None lt) ∙ (sym e ∙ some) in
+      let f : Some m ≡ Some l = sym is_m ∙ subst (λ k. get_or os k None ≡ Some l) (sym here) at in
+      let g : m ≡ l = cc in
+      subst (λ q. q.progress < more) g within
+      )
+]
 
--- so none but those at the places of the progress need be looked at
-pub covered_among : {S : Type 0} (problem : Problem S) (step : ℕ) (os : List (Option (Label S))) (n : ℕ) (places : List ℕ) (l : Label S) (b : Bool) → n ≤ length os → HasPlaces os l.progress places → Decides b (IsCovered problem step (labels_at (take n os) places) l) → Decides b (IsCovered problem step (there (take n os)) l)
-covered_among problem step os n places l b le has d = (
-  (λ t. (
-      let c = d.0 t in
-      let q = one_of-flat_map (label_at (take n os)) places c.0 c.1 in
-      (c.0, at_there (take n os) q.0 c.0 q.2, c.2)
-      )),
-  (λ c. d.1 (
-      let q = there_at (take n os) c.0 c.1 in
-      let few : length (take n os) ≡ n = length-take-le n os le in
-      let lt = q.1 in
-      let inside : q.0 < length os = omega arith in
-      let here : get_or os q.0 None ≡ Some c.0 = sym (get_or-take n os q.0 None (omega arith)) ∙ q.2 in
-      (c.0, one_of_flat_map (label_at (take n os)) places q.0 c.0 (has q.0 c.0 inside here (same_progress problem step c.0 l c.2)) (option_in (get_or (take n os) q.0 None) c.0 q.2), c.2)
-      )),
-)
+-- ---- one list after the other
+
+-- a better label has done as much, or more
+done_as_much : {S : Type 0} (problem : Problem S) (step : ℕ) (a b : Label S) → is_better problem step a b ≡ true → b.progress ≤ a.progress
+done_as_much problem step a b e = elim (better_means problem step a b e).progress [ inl same ↦ omega arith | inr w ↦ (let more = w.more in omega arith) ]
+
+-- No label of the first so many is better, of those whose progress names the list of one from p on and below n.
+abbrev pub NonePlaced : {S : Type 0} → Problem S → ℕ → List (Option (Label S)) → ℕ → Label S → ℕ → ℕ → Type 0
+NonePlaced {S} problem step os count l p n =
+    (q : ℕ) → p ≤ q → q < n → (i : ℕ) (m : Label S) → i < length os → get_or os i None ≡ Some m → m.progress % length os ≡ q % length os → IsCovered problem step (label_at (take count os) i) l → ⊥
+
+pub none_placed_first : {S : Type 0} (problem : Problem S) (step : ℕ) (os : List (Option (Label S))) (count : ℕ) (l : Label S) (p : ℕ) → NonePlaced problem step os count l p p
+none_placed_first problem step os count l p q le lt = absurd (omega arith)
+
+pub none_placed_more : {S : Type 0} (problem : Problem S) (step : ℕ) (os : List (Option (Label S))) (count : ℕ) (l : Label S) (p n : ℕ) (places : List ℕ) → HasPlaces os n places → (IsCovered problem step (labels_at (take count os) places) l → ⊥) →
+    NonePlaced problem step os count l p n → NonePlaced problem step os count l p (n + 1)
+none_placed_more problem step os count l p n places has none h q le lt i m within at same c = elim (cases_lt q n) [
+  | inl less ↦ h q le less i m within at same c
+  | inr more ↦ (
+      let here : q ≡ n = omega arith in
+      none (place_covers problem step (take count os) places i l (has i m within at (same ∙ ap (λ k. k % length os) here)) c)
+      )
+]
+
+pub covered_there : {S : Type 0} (problem : Problem S) (step : ℕ) (os : List (Option (Label S))) (places : List ℕ) (l : Label S) → IsCovered problem step (labels_at os places) l → IsCovered problem step (there os) l
+covered_there problem step os places l c = let q = one_of-flat_map (label_at os) places c.0 c.1 in (c.0, at_there os q.0 c.0 q.2, c.2)
+
+-- from a number on, the list of one that is greater is that of one of the next few
+same_list : (a n k : ℕ) → (a + k % n) % n ≡ (a + k) % n
+same_list a n k =
+    let whole : a + k ≡ a + k % n + n * (k / n) = (let e = div-add-mod k n in omega arith) in
+    sym (ap (λ x. x % n) whole ∙ add-mul-mod_self_left (a + k % n) n (k / n))
+
+-- where the lists up to the end of the progresses, or all of them, are looked through, no label is better
+pub none_there : {S : Type 0} (problem : Problem S) (step : ℕ) (os : List (Option (Label S))) (count : ℕ) (l : Label S) (end stop : ℕ) → count ≤ length os → IsProgressEnd os end → min end (l.progress + length os) ≤ stop →
+    NonePlaced problem step os count l l.progress stop → IsCovered problem step (there (take count os)) l → ⊥
+none_there problem step os count l end stop le below far h c =
+    let q = there_at (take count os) c.0 c.1 in
+    let few : length (take count os) ≡ count = length-take-le count os le in
+    let lt = q.1 in
+    let inside : q.0 < length os = omega arith in
+    let here : get_or os q.0 None ≡ Some c.0 = sym (get_or-take count os q.0 None (omega arith)) ∙ q.2 in
+    let within = below q.0 c.0 inside here in
+    let up = done_as_much problem step c.0 l c.2 in
+    let cover : IsCovered problem step (label_at (take count os) q.0) l = (c.0, option_in (get_or (take count os) q.0 None) c.0 q.2, c.2) in
+    elim (cases_lt c.0.progress (l.progress + length os)) [
+      | inl near ↦ h c.0.progress up (omega arith) q.0 c.0 inside here refl cover
+      | inr past ↦ (
+          let n = length os in
+          let k = c.0.progress - l.progress in
+          let some : k % n < n = mod-lt k (omega arith) in
+          let whole : l.progress + k ≡ c.0.progress = omega arith in
+          let same : c.0.progress % n ≡ (l.progress + k % n) % n = sym (same_list l.progress n k ∙ ap (λ x. x % n) whole) in
+          h (l.progress + k % n) (omega arith) (omega arith) q.0 c.0 inside here same cover
+          )
+    ]
 
 pub covered_none : {S : Type 0} (problem : Problem S) (step : ℕ) (os : List (Option (Label S))) (n : ℕ) (l : Label S) → n ≡ 0 → IsCovered problem step (there (take n os)) l → ⊥
 covered_none problem step os n l e c = subst (λ k. IsOneOf (there (take k os)) c.0) e c.1

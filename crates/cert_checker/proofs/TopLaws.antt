@@ -1,5 +1,5 @@
 -- From the parts of a check to its verdict.
-use Rattle.std.proofs.Common.{◌≡◌, ℕ, ◌*◌, ◌≤◌, true, List, [], length, refl, sym, ◌∙◌, ap, subst}
+use Rattle.std.proofs.Common.{◌≡◌, ℕ, ◌*◌, ◌≤◌, true, List, [], length, refl, sym, ◌∙◌, ap, subst, inl}
 use Rattle.std.specs.Prelude.{Option, None, Some}
 use Rattle.duty_core.specs.declared.activity.Activity.{Activity}
 use Rattle.duty_core.specs.declared.limits.TheConstants.{LONGEST_LOG}
@@ -48,11 +48,11 @@ rooted_started tour log m law t l roots r layer states h s o =
     let q = r.all s o.0 o.1 in
     let c = h q.0 q.1 in
     let cov : m.covers q.0.state s (minute_of tour 0) ≡ true = subst (λ n. m.covers q.0.state s n ≡ true) (log_ends tour t log l) q.2 in
-    let mid : is_better problem 0 (root_label q.0.state) (root_label s) ≡ true = better_from problem 0 (root_label q.0.state) (root_label s) (record { depart = refl; progress = refl; state = cov }) in (
+    let mid : is_better problem 0 (root_label q.0.state) (root_label s) ≡ true = better_from problem 0 (root_label q.0.state) (root_label s) (record { depart = refl; progress = inl refl; state = cov }) in (
       c.0,
       c.1,
       better_on problem (state_at tour m) (allows tour.params) (problem_laws tour m law t) 0 c.0 (root_label q.0.state) (root_label s)
-          (states c.0 c.1) (log_state tour log m law t l q.0.state (q.0.marks, r.reached q.0 q.1)) (log_state tour log m law t l s o) c.2 mid,
+          (states c.0 c.1) (log_state tour log m law t l q.0.state (q.0.marks, r.reached q.0 q.1)) (log_state tour log m law t l s o) refl c.2 mid,
     )
 
 pub started_rooted : {S : Type 0} (tour : Tour) (log : List Activity) (m : Machine S) (roots : List (Root S)) →

@@ -32,7 +32,15 @@ pub record ArePlaced {S : Type 0} (os : List (Option (Label S))) (lists : List (
   pub same : length lists ≡ length os
   pub placed : ArePlacedUpTo os (length os) lists
 
--- Each label of this progress has its place among these.
+-- Each label whose progress names the same list has its place among these.
 abbrev pub HasPlaces : {S : Type 0} → List (Option (Label S)) → ℕ → List ℕ → Type 0
 HasPlaces {S} os progress places =
-    (i : ℕ) (l : Label S) → i < length os → slice_index_or os i None ≡ Some l → l.progress ≡ progress → IsOneOf places i
+    (i : ℕ) (l : Label S) → i < length os → slice_index_or os i None ≡ Some l → l.progress % length os ≡ progress % length os → IsOneOf places i
+
+-- Each label up to a place has done less than this.
+abbrev pub HaveDoneLess : {S : Type 0} → List (Option (Label S)) → ℕ → ℕ → Type 0
+HaveDoneLess {S} os n end = (i : ℕ) (l : Label S) → i < n → slice_index_or os i None ≡ Some l → l.progress < end
+
+-- Each label has.
+abbrev pub IsProgressEnd : {S : Type 0} → List (Option (Label S)) → ℕ → Type 0
+IsProgressEnd os end = HaveDoneLess os (length os) end

@@ -1,8 +1,8 @@
 //! Whether a layer has a better label.
-ghost use Rattle.std.specs.Prelude.{◌≡◌, ◌<◌, ◌≤◌, length, take, Decides};
+ghost use Rattle.std.specs.Prelude.{◌≡◌, ◌==◌, ◌||◌, ◌<◌, ◌≤◌, length, take, Decides};
 ghost use Rattle.tour_model.specs.declared.limits.TheConstants.{STEP_LIMIT};
 ghost use Rattle.tour_model.specs.Tour.{IsTour};
-ghost use Rattle.cert_text.specs.CoverLists.Problem.{later, is_better};
+ghost use Rattle.cert_text.specs.CoverLists.Problem.{can_wait_for, is_better};
 ghost use Rattle.cert_text.specs.CoverLists.Planning.{problem_of, minute_of};
 ghost use Rattle.cert_text.specs.CoverLists.Cover.{IsCovered};
 ghost use Rattle.cert_checker.specs.Parsed.{there};
@@ -12,19 +12,23 @@ ghost use Rattle.cert_checker.specs.Places.{label_at, labels_at};
 use crate::asked::Asked;
 use crate::listing::Listing;
 use crate::terms::Terms;
-use cert_text::minute_at;
+use cert_text::{departs_later, may_idle_after, minute_at};
 use rule_core::RuleBook;
 use tour_model::Label;
 
-/// Whether the first departure is not earlier. None, for not yet, is later than all.
-fn departs_later(a: Option<u32>, b: Option<u32>) -> bool
-    ensures { result ≡ later a b }
+/// Whether the label has done as much as the one asked about, or can rest until that has.
+fn keeps_up<B: RuleBook>(
+    terms: &Terms<'_, B>,
+    label: &Label<B::State>,
+    asked: &Asked<'_, B::State>,
+) -> bool
+    requires { IsTour terms.now.tour.now }
+    ensures { result ≡ (label.now.progress == asked.now.progress || can_wait_for (problem_of terms.now.tour.now (B.machine terms.now.book.now)) label.now asked.now) }
 {
-    match (a, b) {
-        (None, _) => true,
-        (Some(_), None) => false,
-        (Some(x), Some(y)) => y <= x,
-    }
+    label.progress == asked.progress
+        || (asked.progress < label.progress
+            && may_idle_after(terms.tour, label.progress)
+            && terms.book.ahead(&label.state))
 }
 
 /// Whether the label is better than the one asked about.
@@ -40,8 +44,8 @@ fn is_better<B: RuleBook>(
     requires step { step < STEP_LIMIT }
     ensures { result ≡ is_better (problem_of terms.now.tour.now (B.machine terms.now.book.now)) step label.now asked.now }
 {
-    label.progress == asked.progress
-        && departs_later(label.depart, asked.depart)
+    departs_later(label.depart, asked.depart)
+        && keeps_up(terms, label, asked)
         && terms
             .book
             .covers(&label.state, asked.state, minute_at(terms.tour, step))
@@ -86,7 +90,8 @@ fn is_any_better<B: RuleBook>(
     false
 }
 
-/// Whether one of the first `count` labels of the layer is better than the one asked about.
+/// Whether one of the first `count` labels of the layer is better than the one asked about. Those
+/// that have done as much are looked at, and those that have done more.
 pub fn is_covered_before<B: RuleBook>(
     terms: &Terms<'_, B>,
     step: u32,
@@ -102,8 +107,16 @@ pub fn is_covered_before<B: RuleBook>(
         return false;
     }
     let before = &labels.items()[..count];
-    let places = labels.places(asked.progress);
-    is_any_better(terms, step, before, places, asked)
+    let first = asked.progress as usize;
+    // From there on the lists come again.
+    let end = first.saturating_add(labels.items().len());
+    for progress in first..labels.progress_end().min(end) {
+        let places = labels.places(progress);
+        if is_any_better(terms, step, before, places, asked) {
+            return true;
+        }
+    }
+    false
 }
 
 /// Whether some label of the layer is better than the one asked about.

@@ -1,6 +1,6 @@
 //! The labels of a layer, and the places at which those of a progress stand.
 ghost use Rattle.std.specs.Prelude.{◌≡◌, ◌<◌, length, IfOk, OnOk};
-ghost use Rattle.cert_checker.specs.Places.{plain, with_place, ArePlaced, HasPlaces};
+ghost use Rattle.cert_checker.specs.Places.{plain, with_place, ArePlaced, HasPlaces, IsProgressEnd};
 
 use duty_core::NoMemory;
 use std::alloc::Global;
@@ -10,24 +10,25 @@ use tour_model::Label;
 /// The labels of a layer in their order, where a label whose numbers are those of no state is None.
 ///
 /// Beside them stand the places of the labels, in as many lists as there are labels: a label's in
-/// the list that its progress names. So whoever looks for a better label looks at those of its
-/// progress, and at few others.
+/// the list that its progress names. So whoever looks for a better label looks at those that have
+/// done as much, at those that have done more, and at few others.
 #[derive(Drop)]
 pub struct Listing<S> {
     labels: Vec<Option<Label<S>>>,
     places: Vec<Vec<usize>>,
+    end: usize,
 }
 
 impl<S> Model for Listing<S> {
     ghost use Rattle.std.specs.Prelude.{List, Option};
     ghost use Rattle.tour_model.specs.declared.label.Label.{Label};
-    ghost use Rattle.cert_checker.specs.Places.{plain, ArePlaced};
+    ghost use Rattle.cert_checker.specs.Places.{plain, ArePlaced, IsProgressEnd};
 
     ghost Value = { List (Option (Label S)) };
 
     ghost view = { λ l. l.labels.items };
 
-    ghost invariant = { λ l. ArePlaced l.labels.items (plain l.places.items) };
+    ghost invariant = { λ l. ArePlaced l.labels.items (plain l.places.items) × IsProgressEnd l.labels.items l.end };
 }
 
 /// So many empty lists.
@@ -65,13 +66,32 @@ fn places_of<S>(alloc: Global, labels: &[Option<Label<S>>]) -> Result<Vec<Vec<us
     Ok(lists)
 }
 
+/// A number that is above the progress of each of the labels.
+fn end_of<S>(labels: &[Option<Label<S>>]) -> usize
+    ensures { IsProgressEnd labels.now result }
+{
+    let mut end = 0;
+    for label in labels {
+        let Some(label) = label else {
+            continue;
+        };
+        end = end.max(label.progress as usize + 1);
+    }
+    end
+}
+
 impl<S: Drop> Listing<S> {
     /// The listing of these labels.
     pub fn new(alloc: Global, labels: Vec<Option<Label<S>>>) -> Result<Listing<S>, NoMemory>
         ensures { IfOk result (λ listing. listing ≡ labels.items) }
     {
         let places = places_of(alloc, &labels)?;
-        Ok(Listing { labels, places })
+        let end = end_of(&labels);
+        Ok(Listing {
+            labels,
+            places,
+            end,
+        })
     }
 
     /// The labels in their order.
@@ -81,11 +101,19 @@ impl<S: Drop> Listing<S> {
         self.labels.as_slice()
     }
 
-    /// The places of the labels of this progress, and of few others.
-    pub fn places(&self, progress: u32) -> &[usize]
+    /// A number that is above the progress of each of the labels.
+    pub fn progress_end(&self) -> usize
+        ensures { IsProgressEnd self.now result }
+    {
+        self.end
+    }
+
+    /// The places of the labels of this progress, and of those that differ from it by a multiple of
+    /// the number of labels.
+    pub fn places(&self, progress: usize) -> &[usize]
         requires { 0 < length self.now }
         ensures { HasPlaces self.now progress result.now }
     {
-        self.places[progress as usize % self.places.len()].as_slice()
+        self.places[progress % self.places.len()].as_slice()
     }
 }

@@ -11,4 +11,4 @@ returns g c =
     let same : c.len.result ≡ length vs = omega arith in
     let some : 0 < length os = subst (λ ys. 0 < length ys) (sym c.self.view_is) c.requires in
     subst (λ ys. HasPlaces ys c.args.progress c.as_slice.result.now) c.self.view_is
-    (subst (λ ps. HasPlaces os c.args.progress ps) (sym c.as_slice.ensures.value) (has_places os vs c.args.progress c.len.result c.index.result.now c.self.invariant some same c.index.ensures))
+    (subst (λ ps. HasPlaces os c.args.progress ps) (sym c.as_slice.ensures.value) (has_places os vs c.args.progress c.len.result c.index.result.now c.self.invariant.0 some same c.index.ensures))
