@@ -77,10 +77,10 @@ covers_log tour log m law t l roots h layer here started s r =
     let q = h.all s r.0 r.1 in
     let d = started q.0.state (q.0, q.1, refl) in
     let over : m.covers q.0.state s (minute_of tour 0) ≡ true = subst (λ at. m.covers q.0.state s at ≡ true) (log_ends tour t log l) q.2 in
-    let b = better_from problem 0 (root_label q.0.state) (root_label s) (record { depart = refl; progress = refl; state = over }) in (
+    let b = better_from problem 0 (root_label q.0.state) (root_label s) (record { depart = refl; progress = inl refl; state = over }) in (
       d.0,
       d.1,
-      better_on problem (state_at tour m) (allows tour.params) laws 0 d.0 (root_label q.0.state) (root_label s) (here d.0 d.1) (states q.0.state (q.0.marks, h.reached q.0 q.1)) (states s r) d.2 b,
+      better_on problem (state_at tour m) (allows tour.params) laws 0 d.0 (root_label q.0.state) (root_label s) (here d.0 d.1) (states q.0.state (q.0.marks, h.reached q.0 q.1)) (states s r) refl d.2 b,
     )
 
 cover_list_log : {S : Type 0} (tour : Tour) (log : List Activity) (m : Machine S) → IsBook tour.params m → IsTour tour → unit_minutes tour.params * length log ≤ LONGEST_LOG →
