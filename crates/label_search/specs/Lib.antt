@@ -2,4 +2,5 @@ pub mod Sound
 pub mod Searched
 pub mod Searching
 pub mod Ways
+pub mod Terms
 pub mod Laws

@@ -17,6 +17,7 @@ use crate::best::{Best, best_of};
 use crate::fill::add_layer;
 use crate::gather::{gather, root_labels};
 use crate::guess::first_limit;
+use crate::terms::Terms;
 use duty_core::NoMemory;
 use label_state::{Layers, Place};
 use rule_core::{Root, RuleBook};
@@ -79,8 +80,14 @@ pub fn search<B: RuleBook>(
         (IsLogState tour.now log (B.machine book.now)) roots.now budget s) }
 {
     let goal = tour.word_len();
+    let terms = Terms {
+        alloc,
+        book,
+        tour,
+        roots,
+    };
     let mut best = Best {
-        limit: first_limit(alloc, book, tour, roots, budget)?,
+        limit: first_limit(&terms, budget)?,
         place: None,
     };
     let mut layers = Layers::new(alloc);

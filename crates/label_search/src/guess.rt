@@ -2,21 +2,21 @@
 //! some solution takes no more than what it finds.
 ghost use Rattle.std.specs.Prelude.{◌≡◌, ℕ, ◌+◌, ◌^◌, ◌<◌, ◌≤◌, List, length, IfOk, OnOk};
 ghost use Rattle.duty_core.specs.Params.{allows};
-ghost use Rattle.rule_core.specs.Replay.{AreRootStates};
 ghost use Rattle.tour_model.specs.declared.limits.TheConstants.{STEP_LIMIT};
 ghost use Rattle.tour_model.specs.Tour.{IsTour};
-ghost use Rattle.tour_model.specs.Word.{word_length};
 ghost use Rattle.cert_text.specs.CoverLists.Planning.{problem_of, state_at};
 ghost use Rattle.label_dominance.specs.Offers.{AreStatesAt};
 ghost use Rattle.label_search.specs.Searching.{IsRootState, IsLimit};
-ghost use Rattle.label_search.specs.Ways.{IsReached, AreReached, AreRankedReached, IsGuess, IsLessOf, IsLeastOf, ArePartsOf};
+ghost use Rattle.label_search.specs.Ways.{IsLessOf, IsLeastOf, ArePartsOf};
+ghost use Rattle.label_search.specs.Terms.{AreTerms, IsReachedBy, AreReachedBy, AreRankedBy, IsGuessBy};
 
+use crate::terms::Terms;
 use cert_text::is_pruned;
 use duty_core::NoMemory;
 use label_dominance::better;
 use label_extend::successors;
 use label_state::Label;
-use rule_core::{Root, RuleBook};
+use rule_core::RuleBook;
 use std::alloc::Global;
 use tour_model::{STEP_LIMIT, Tour};
 
@@ -41,23 +41,16 @@ struct Guess {
 }
 
 /// The labels of the roots.
-fn root_beam<B: RuleBook>(
-    alloc: Global,
-    book: &B,
-    tour: &Tour,
-    roots: &[Root<B::State>],
-) -> Result<Vec<Label<B::State>>, NoMemory>
-    requires roots { AreRootStates (B.machine book.now) tour.now.start roots.now }
-    ensures { IfOk result (λ beam. AreReached (problem_of tour.now (B.machine book.now)) (state_at tour.now (B.machine book.now))
-        (allows tour.now.params) (IsRootState roots.now) 0 beam.items) }
+fn root_beam<B: RuleBook>(terms: &Terms<'_, B, B::State>) -> Result<Vec<Label<B::State>>, NoMemory>
+    requires { AreTerms terms.now (B.machine terms.now.book.now) }
+    ensures { IfOk result (λ beam. AreReachedBy terms.now (B.machine terms.now.book.now) 0 beam.items) }
 {
-    let _ = tour;
-    let mut beam = Vec::new(alloc);
-    for root in roots {
+    let mut beam = Vec::new(terms.alloc);
+    for root in terms.roots {
         beam.push(Label {
             depart: None,
             progress: 0,
-            state: book.copy(&root.state)?,
+            state: terms.book.copy(&root.state)?,
         })?;
     }
     Ok(beam)
@@ -107,27 +100,24 @@ fn ends_about<B: RuleBook>(
 
 /// Adds the successors of a label that might take less than the best.
 fn grow_label<B: RuleBook>(
-    alloc: Global,
-    book: &B,
-    tour: &Tour,
-    roots: &[Root<B::State>],
+    terms: &Terms<'_, B, B::State>,
     best: Option<u32>,
     step: u32,
     label: &Label<B::State>,
     list: &mut Vec<Ranked<B::State>>,
 ) -> Result<(), NoMemory>
-    requires tour { IsTour tour.now }
-    requires params { (B.machine book.now).params ≡ tour.now.params }
-    requires roots { AreRootStates (B.machine book.now) tour.now.start roots.now }
-    requires label { IsReached (problem_of tour.now (B.machine book.now)) (state_at tour.now (B.machine book.now))
-        (allows tour.now.params) (IsRootState roots.now) step label.now }
-    requires list { AreRankedReached (problem_of tour.now (B.machine book.now)) (state_at tour.now (B.machine book.now))
-        (allows tour.now.params) (IsRootState roots.now) (step + 1) list.old.items }
+    requires terms { AreTerms terms.now (B.machine terms.now.book.now) }
+    requires label { IsReachedBy terms.now (B.machine terms.now.book.now) step label.now }
+    requires list { AreRankedBy terms.now (B.machine terms.now.book.now) (step + 1) list.old.items }
     requires step { step + 1 < STEP_LIMIT }
-    ensures ok { OnOk result (AreRankedReached (problem_of tour.now (B.machine book.now)) (state_at tour.now (B.machine book.now))
-        (allows tour.now.params) (IsRootState roots.now) (step + 1) list.new.items) }
+    ensures ok { OnOk result (AreRankedBy terms.now (B.machine terms.now.book.now) (step + 1) list.new.items) }
 {
-    let _ = roots;
+    let Terms {
+        alloc,
+        book,
+        tour,
+        ..
+    } = *terms;
     for grown in successors(alloc, book, tour, label, step)?.into_vec() {
         let label = grown.label;
         if let Some(eta) = tour.eta(step + 1, label.progress) {
@@ -142,26 +132,19 @@ fn grow_label<B: RuleBook>(
 
 /// The successors of the labels that might take less than the best.
 fn grow_beam<B: RuleBook>(
-    alloc: Global,
-    book: &B,
-    tour: &Tour,
-    roots: &[Root<B::State>],
+    terms: &Terms<'_, B, B::State>,
     best: Option<u32>,
     step: u32,
     beam: &[Label<B::State>],
 ) -> Result<Vec<Ranked<B::State>>, NoMemory>
-    requires tour { IsTour tour.now }
-    requires params { (B.machine book.now).params ≡ tour.now.params }
-    requires roots { AreRootStates (B.machine book.now) tour.now.start roots.now }
-    requires beam { AreReached (problem_of tour.now (B.machine book.now)) (state_at tour.now (B.machine book.now))
-        (allows tour.now.params) (IsRootState roots.now) step beam.now }
+    requires terms { AreTerms terms.now (B.machine terms.now.book.now) }
+    requires beam { AreReachedBy terms.now (B.machine terms.now.book.now) step beam.now }
     requires step { step + 1 < STEP_LIMIT }
-    ensures { IfOk result (λ list. AreRankedReached (problem_of tour.now (B.machine book.now)) (state_at tour.now (B.machine book.now))
-        (allows tour.now.params) (IsRootState roots.now) (step + 1) list.items) }
+    ensures { IfOk result (λ list. AreRankedBy terms.now (B.machine terms.now.book.now) (step + 1) list.items) }
 {
-    let mut list = Vec::new(alloc);
+    let mut list = Vec::new(terms.alloc);
     for label in beam {
-        grow_label(alloc, book, tour, roots, best, step, label, &mut list)?;
+        grow_label(terms, best, step, label, &mut list)?;
     }
     Ok(list)
 }
@@ -190,28 +173,21 @@ fn is_covered<B: RuleBook>(
 
 /// The labels that might end first, none of which is better than another, and not too many.
 fn thinned<B: RuleBook>(
-    alloc: Global,
-    book: &B,
-    tour: &Tour,
-    roots: &[Root<B::State>],
+    terms: &Terms<'_, B, B::State>,
     step: u32,
     list: Vec<Ranked<B::State>>,
 ) -> Result<Vec<Label<B::State>>, NoMemory>
-    requires tour { IsTour tour.now }
-    requires params { (B.machine book.now).params ≡ tour.now.params }
-    requires list { AreRankedReached (problem_of tour.now (B.machine book.now)) (state_at tour.now (B.machine book.now))
-        (allows tour.now.params) (IsRootState roots.now) step list.items }
+    requires terms { AreTerms terms.now (B.machine terms.now.book.now) }
+    requires list { AreRankedBy terms.now (B.machine terms.now.book.now) step list.items }
     requires step { step < STEP_LIMIT }
-    ensures { IfOk result (λ beam. AreReached (problem_of tour.now (B.machine book.now)) (state_at tour.now (B.machine book.now))
-        (allows tour.now.params) (IsRootState roots.now) step beam.items) }
+    ensures { IfOk result (λ beam. AreReachedBy terms.now (B.machine terms.now.book.now) step beam.items) }
 {
-    let _ = roots;
     let mut list = list;
     list.sort_by_key(|ranked| ranked.ends)?;
-    let mut beam = Vec::new(alloc);
+    let mut beam = Vec::new(terms.alloc);
     for ranked in list {
         let label = ranked.label;
-        if beam.len() < BEAM && !is_covered(book, tour, &beam, &label, step) {
+        if beam.len() < BEAM && !is_covered(terms.book, terms.tour, &beam, &label, step) {
             beam.push(label)?;
         }
     }
@@ -245,24 +221,18 @@ fn best_finished<S>(goal: u32, beam: &[Label<S>], step: u32, best: Option<u32>) 
 
 /// Follows the labels of this step to their ends, and keeps the best.
 fn follow<B: RuleBook>(
-    alloc: Global,
-    book: &B,
-    tour: &Tour,
-    roots: &[Root<B::State>],
+    terms: &Terms<'_, B, B::State>,
     departed: Vec<Label<B::State>>,
     first: u32,
     guess: Guess,
 ) -> Result<Guess, NoMemory>
-    requires tour { IsTour tour.now }
-    requires params { (B.machine book.now).params ≡ tour.now.params }
-    requires roots { AreRootStates (B.machine book.now) tour.now.start roots.now }
-    requires departed { AreReached (problem_of tour.now (B.machine book.now)) (state_at tour.now (B.machine book.now))
-        (allows tour.now.params) (IsRootState roots.now) first departed.items }
-    requires guess { IsGuess (problem_of tour.now (B.machine book.now)) (allows tour.now.params) (IsRootState roots.now) guess.best }
+    requires terms { AreTerms terms.now (B.machine terms.now.book.now) }
+    requires departed { AreReachedBy terms.now (B.machine terms.now.book.now) first departed.items }
+    requires guess { IsGuessBy terms.now (B.machine terms.now.book.now) guess.best }
     requires first { first < STEP_LIMIT }
-    ensures { IfOk result (λ found. IsGuess (problem_of tour.now (B.machine book.now)) (allows tour.now.params) (IsRootState roots.now) found.best) }
+    ensures { IfOk result (λ found. IsGuessBy terms.now (B.machine terms.now.book.now) found.best) }
 {
-    let goal = tour.word_len();
+    let goal = terms.tour.word_len();
     let mut guess = guess;
     let mut beam = departed;
     let mut step = first;
@@ -271,9 +241,9 @@ fn follow<B: RuleBook>(
             best: best_finished(goal, &beam, step, guess.best),
             work: guess.work.saturating_sub(beam.len()),
         };
-        let grown = grow_beam(alloc, book, tour, roots, guess.best, step, &beam)?;
+        let grown = grow_beam(terms, guess.best, step, &beam)?;
         step += 1;
-        beam = thinned(alloc, book, tour, roots, step, grown)?;
+        beam = thinned(terms, step, grown)?;
     }
     Ok(guess)
 }
@@ -302,27 +272,19 @@ fn part_by_departure<S: Drop>(alloc: Global, beam: Vec<Label<S>>) -> Result<Part
 }
 
 /// The duration of some solution, where a quick search finds one.
-fn guessed<B: RuleBook>(
-    alloc: Global,
-    book: &B,
-    tour: &Tour,
-    roots: &[Root<B::State>],
-    work: usize,
-) -> Result<Guess, NoMemory>
-    requires tour { IsTour tour.now }
-    requires params { (B.machine book.now).params ≡ tour.now.params }
-    requires roots { AreRootStates (B.machine book.now) tour.now.start roots.now }
-    ensures { IfOk result (λ found. IsGuess (problem_of tour.now (B.machine book.now)) (allows tour.now.params) (IsRootState roots.now) found.best) }
+fn guessed<B: RuleBook>(terms: &Terms<'_, B, B::State>, work: usize) -> Result<Guess, NoMemory>
+    requires { AreTerms terms.now (B.machine terms.now.book.now) }
+    ensures { IfOk result (λ found. IsGuessBy terms.now (B.machine terms.now.book.now) found.best) }
 {
     let mut guess = Guess { best: None, work };
-    let mut waiting = root_beam(alloc, book, tour, roots)?;
+    let mut waiting = root_beam(terms)?;
     let mut step = 0;
     while step + 1 < STEP_LIMIT && !waiting.is_empty() && guess.work > 0 {
-        let grown = grow_beam(alloc, book, tour, roots, guess.best, step, &waiting)?;
+        let grown = grow_beam(terms, guess.best, step, &waiting)?;
         step += 1;
-        let beam = thinned(alloc, book, tour, roots, step, grown)?;
-        let parts = part_by_departure(alloc, beam)?;
-        guess = follow(alloc, book, tour, roots, parts.departed, step, guess)?;
+        let beam = thinned(terms, step, grown)?;
+        let parts = part_by_departure(terms.alloc, beam)?;
+        guess = follow(terms, parts.departed, step, guess)?;
         waiting = parts.waiting;
     }
     Ok(guess)
@@ -331,24 +293,13 @@ fn guessed<B: RuleBook>(
 /// A number of steps that some solution stays below, where a quick search finds one; None where it
 /// finds none.
 pub fn first_limit<B: RuleBook>(
-    alloc: Global,
-    book: &B,
-    tour: &Tour,
-    roots: &[Root<B::State>],
+    terms: &Terms<'_, B, B::State>,
     budget: u32,
 ) -> Result<Option<u32>, NoMemory>
-    requires tour { IsTour tour.now }
-    requires params { (B.machine book.now).params ≡ tour.now.params }
-    requires roots { AreRootStates (B.machine book.now) tour.now.start roots.now }
-    ensures { IfOk result (IsLimit (problem_of tour.now (B.machine book.now)) (allows tour.now.params) (IsRootState roots.now)) }
+    requires { AreTerms terms.now (B.machine terms.now.book.now) }
+    ensures { IfOk result (IsLimit (problem_of terms.now.tour.now (B.machine terms.now.book.now)) (allows terms.now.tour.now.params) (IsRootState terms.now.roots.now)) }
 {
-    let guess = guessed(
-        alloc,
-        book,
-        tour,
-        roots,
-        budget.saturating_mul(WORK) as usize,
-    )?;
+    let guess = guessed(terms, budget.saturating_mul(WORK) as usize)?;
     match guess.best {
         None => Ok(None),
         Some(best) => Ok(best.checked_add(1)),

@@ -8,6 +8,7 @@ mod gather;
 mod guess;
 mod laws;
 mod order;
+mod terms;
 
 pub use by_layers::{Searched, search};
 pub use label_state::{Kept, Label, Layers, Place};

@@ -8,11 +8,11 @@ use Rattle.label_search.proofs.guess.follow.Goals as goal
 
 pub loop-step-preserved : goal.loop-step-preserved
 loop-step-preserved g c =
-    let book = c.args.book.now in
-    let tour = c.args.tour.now in
+    let book = c.args.terms.now.book.now in
+    let tour = c.args.terms.now.tour.now in
     let problem = problem_of tour (g.B.RuleBook.machine book) in
     let is_state = state_at tour (g.B.RuleBook.machine book) in
-    let starts = IsRootState c.args.roots.now in
+    let starts = IsRootState c.args.terms.now.roots.now in
     let least = subst (λ n. IsLeastOf n c.loop-step.beam.items c.loop-step.step c.loop-step.guess.best c.best_finished.result) c.word_len-goal.ensures
     (subst (λ ys. IsLeastOf c.word_len-goal.result ys c.loop-step.step c.loop-step.guess.best c.best_finished.result) c.deref.ensures.value c.best_finished.ensures) in
     record {

@@ -8,8 +8,8 @@ use Rattle.label_search.proofs.guess.follow.Given as goal
 
 abbrev pub invariant-loop-step : goal.invariant-loop-step
 invariant-loop-step g l = record {
-  beam : AreReached (problem_of l.tour (g.B.RuleBook.machine l.book)) (state_at l.tour (g.B.RuleBook.machine l.book)) (allows l.tour.params) (IsRootState l.roots) l.step l.beam.items;
-  guess : IsGuess (problem_of l.tour (g.B.RuleBook.machine l.book)) (allows l.tour.params) (IsRootState l.roots) l.guess.best;
+  beam : AreReached (problem_of l.terms.tour.now (g.B.RuleBook.machine l.terms.book.now)) (state_at l.terms.tour.now (g.B.RuleBook.machine l.terms.book.now)) (allows l.terms.tour.now.params) (IsRootState l.terms.roots.now) l.step l.beam.items;
+  guess : IsGuess (problem_of l.terms.tour.now (g.B.RuleBook.machine l.terms.book.now)) (allows l.terms.tour.now.params) (IsRootState l.terms.roots.now) l.guess.best;
   within : l.step < STEP_LIMIT;
 }
 

@@ -6,4 +6,4 @@ use Rattle.label_search.specs.Ways.{AreRankedReached}
 use Rattle.label_search.proofs.guess.grow_beam.Given as goal
 
 abbrev pub invariant-loop-label : goal.invariant-loop-label
-invariant-loop-label g l = AreRankedReached (problem_of l.tour (g.B.RuleBook.machine l.book)) (state_at l.tour (g.B.RuleBook.machine l.book)) (allows l.tour.params) (IsRootState l.roots) (l.step + 1) l.list.items
+invariant-loop-label g l = AreRankedReached (problem_of l.terms.tour.now (g.B.RuleBook.machine l.terms.book.now)) (state_at l.terms.tour.now (g.B.RuleBook.machine l.terms.book.now)) (allows l.terms.tour.now.params) (IsRootState l.terms.roots.now) (l.step + 1) l.list.items

@@ -25,7 +25,7 @@ turn_of g c =
     let t = YieldsList-turn (YieldsList-from_vec {s = c.into_iter-grown-iterator.result} xs i.0 (omega arith)) c.loop-grown.yielded c.loop-grown.grown-iterator c.loop-grown.yielded_by c.next.result c.next.new.self c.in-Some.grown c.in-Some.is c.next.ensures.steps in
     one_of_item xs (length c.loop-grown.yielded) c.in-Some.grown t.0 t.1
 
-label_of : (g : _) (c : In-Some g) → IsLabelAt (state_at c.args.tour.now (g.B.RuleBook.machine c.args.book.now)) (word_length c.args.tour.now) (c.args.step + 1) c.in-Some.grown.label
+label_of : (g : _) (c : In-Some g) → IsLabelAt (state_at c.args.terms.now.tour.now (g.B.RuleBook.machine c.args.terms.now.book.now)) (word_length c.args.terms.now.tour.now) (c.args.step + 1) c.in-Some.grown.label
 label_of g c = c.in_ok-successors.ensures.labels c.requires.label.at c.in-Some.grown (subst (λ ys. IsOneOf ys c.in-Some.grown) c.into_vec-grown-items.ensures (turn_of g c))
 
 pub successors-requires-clause-state : goal.successors-requires-clause-state
@@ -39,18 +39,18 @@ eta-requires-clause-progress g c = (label_of g (goal.at.eta-requires-clause-prog
 
 pub loop-grown-preserved-in_ok-push : goal.loop-grown-preserved-in_ok-push
 loop-grown-preserved-in_ok-push g c =
-    let book = c.args.book.now in
-    let tour = c.args.tour.now in
+    let book = c.args.terms.now.book.now in
+    let tour = c.args.terms.now.tour.now in
     let m = g.B.RuleBook.machine book in
-    let law = subst (λ params. IsBook params m) c.requires.params (g.met.B.RuleBook.laws book) in
+    let law = subst (λ params. IsBook params m) c.requires.terms.params (g.met.B.RuleBook.laws book) in
     let problem = problem_of tour m in
     let is_state = state_at tour m in
-    let starts = IsRootState c.args.roots.now in
+    let starts = IsRootState c.args.terms.now.roots.now in
     let some = (goal.at.loop-grown-preserved-in_ok-push g c).In-Some in
     let l = c.in-Some.grown.label in
     let step = c.args.step in
     let e : tour.start ≡ minute_of tour 0 = omega arith in
-    let states = root_state is_state c.args.roots.now 0 (λ r o. subst (m.is_state r.state) e (c.requires.roots r o)) in
+    let states = root_state is_state c.args.terms.now.roots.now 0 (λ r o. subst (m.is_state r.state) e (c.requires.terms.roots r o)) in
     let bound : HasBound problem (step + 1) l = record { bound = c.in-Some-eta.eta; is = sym c.eta.ensures.value ∙ c.in-Some-eta.is } in
     let o = subst (λ ys. IsOneOf ys c.in-Some.grown) (c.into_vec-grown-items.ensures ∙ c.in_ok-successors.ensures.exact) (turn_of g some) in
     record {
@@ -58,5 +58,5 @@ loop-grown-preserved-in_ok-push g c =
       finite = tt;
       reached = subst (AreRankedReached problem is_state (allows tour.params) starts (step + 1)) (sym c.in_ok-push.ensures.items)
           (ranked_push problem is_state (allows tour.params) starts (step + 1) c.loop-grown.list.items _ c.loop-grown.invariant.reached
-          (grown_reached problem is_state (allows tour.params) starts (problem_laws tour m law c.requires.tour) states step c.args.label.now c.in-Some.grown c.requires.label o bound (label_of g some)));
+          (grown_reached problem is_state (allows tour.params) starts (problem_laws tour m law c.requires.terms.tour) states step c.args.label.now c.in-Some.grown c.requires.label o bound (label_of g some)));
     }

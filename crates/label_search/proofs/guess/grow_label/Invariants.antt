@@ -9,5 +9,5 @@ abbrev pub invariant-loop-grown : goal.invariant-loop-grown
 invariant-loop-grown g l = record {
   can : (goal.iterator-loop-grown g).can_next l.grown-iterator;
   finite : (goal.iterator-loop-grown g).is_finite l.grown-iterator;
-  reached : AreRankedReached (problem_of l.tour (g.B.RuleBook.machine l.book)) (state_at l.tour (g.B.RuleBook.machine l.book)) (allows l.tour.params) (IsRootState l.roots) (l.step + 1) l.list.items;
+  reached : AreRankedReached (problem_of l.terms.tour.now (g.B.RuleBook.machine l.terms.book.now)) (state_at l.terms.tour.now (g.B.RuleBook.machine l.terms.book.now)) (allows l.terms.tour.now.params) (IsRootState l.terms.roots.now) (l.step + 1) l.list.items;
 }

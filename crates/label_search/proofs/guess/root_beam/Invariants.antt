@@ -5,4 +5,4 @@ use Rattle.label_search.specs.Ways.{AreReached}
 use Rattle.label_search.proofs.guess.root_beam.Given as goal
 
 abbrev pub invariant-loop-root : goal.invariant-loop-root
-invariant-loop-root g l = AreReached (problem_of l.tour (g.B.RuleBook.machine l.book)) (state_at l.tour (g.B.RuleBook.machine l.book)) (allows l.tour.params) (IsRootState l.roots) 0 l.beam.items
+invariant-loop-root g l = AreReached (problem_of l.terms.tour.now (g.B.RuleBook.machine l.terms.book.now)) (state_at l.terms.tour.now (g.B.RuleBook.machine l.terms.book.now)) (allows l.terms.tour.now.params) (IsRootState l.terms.roots.now) 0 l.beam.items

@@ -12,8 +12,8 @@ use Rattle.label_search.proofs.Places.{one_of_permuted}
 use Rattle.label_search.proofs.guess.thinned.Goals as goal
 use Rattle.label_search.proofs.guess.thinned.Goals.{In-Some}
 
-reached_of : (g : _) (c : In-Some g) → IsReached (problem_of c.args.tour.now (g.B.RuleBook.machine c.args.book.now)) (state_at c.args.tour.now (g.B.RuleBook.machine c.args.book.now))
-    (allows c.args.tour.now.params) (IsRootState c.args.roots.now) c.args.step c.in-Some.ranked.label
+reached_of : (g : _) (c : In-Some g) → IsReached (problem_of c.args.terms.now.tour.now (g.B.RuleBook.machine c.args.terms.now.book.now)) (state_at c.args.terms.now.tour.now (g.B.RuleBook.machine c.args.terms.now.book.now))
+    (allows c.args.terms.now.tour.now.params) (IsRootState c.args.terms.now.roots.now) c.args.step c.in-Some.ranked.label
 reached_of g c =
     let xs = c.sort_by_key.new.self.items in
     let i = c.into_iter-ranked-iterator.ensures.into_iter_gives in
@@ -28,11 +28,11 @@ is_covered-requires-clause-label g c = (reached_of g (goal.at.is_covered-require
 
 pub loop-ranked-preserved-then-not-is_covered : goal.loop-ranked-preserved-then-not-is_covered
 loop-ranked-preserved-then-not-is_covered g c =
-    let book = c.args.book.now in
-    let tour = c.args.tour.now in
+    let book = c.args.terms.now.book.now in
+    let tour = c.args.terms.now.tour.now in
     let problem = problem_of tour (g.B.RuleBook.machine book) in
     let is_state = state_at tour (g.B.RuleBook.machine book) in
-    let starts = IsRootState c.args.roots.now in
+    let starts = IsRootState c.args.terms.now.roots.now in
     record {
       can = tt;
       finite = tt;

@@ -8,5 +8,5 @@ abbrev pub invariant-loop-ranked : goal.invariant-loop-ranked
 invariant-loop-ranked g l = record {
   can : (goal.iterator-loop-ranked g).can_next l.ranked-iterator;
   finite : (goal.iterator-loop-ranked g).is_finite l.ranked-iterator;
-  reached : AreReached (problem_of l.tour (g.B.RuleBook.machine l.book)) (state_at l.tour (g.B.RuleBook.machine l.book)) (allows l.tour.params) (IsRootState l.roots) l.step l.beam.items;
+  reached : AreReached (problem_of l.terms.tour.now (g.B.RuleBook.machine l.terms.book.now)) (state_at l.terms.tour.now (g.B.RuleBook.machine l.terms.book.now)) (allows l.terms.tour.now.params) (IsRootState l.terms.roots.now) l.step l.beam.items;
 }
