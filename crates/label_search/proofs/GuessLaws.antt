@@ -13,9 +13,8 @@ use Rattle.cert_text.specs.CoverLists.Cover.{IsLabelAt, taken}
 use Rattle.cert_text.specs.CoverLists.Continuation.{takes}
 use Rattle.cert_text.specs.CoverLists.Laws.ProblemLaws.{IsProblem}
 use Rattle.cert_text.specs.CoverLists.Laws.CoverLaws.{departed_from}
-use Rattle.label_search.specs.declared.guess.Ranked.{Ranked}
 use Rattle.label_search.specs.Searching.{IsSolved, IsLimit}
-use Rattle.label_search.specs.Ways.{IsWay, IsReached, AreReached, AreRankedReached, IsGuess, IsLessOf, IsLeastOf, ArePartsOf}
+use Rattle.label_search.specs.Ways.{IsWay, IsReached, AreReached, IsGuess, IsLessOf, IsLeastOf, ArePartsOf}
 use Rattle.label_search.proofs.SoundLaws.{way_more, root_way}
 
 -- a root's label is reached
@@ -43,19 +42,11 @@ grown_reached problem is_state allowed starts laws states step l g r o bound at 
       at = at;
     }
 
--- a list and one more
-pub reached_push : {S : Type 0} (problem : Problem S) (is_state : S → ℕ → Type 0) (allowed : Activity → Bool) (starts : S → Type 0) (step : ℕ) (ls : List (Label S)) (l : Label S) → AreReached problem is_state allowed starts step ls → IsReached problem is_state allowed starts step l →
-    AreReached problem is_state allowed starts step (ls ++ l ∷ [])
-reached_push problem is_state allowed starts step ls l h r m o = elim (one_of-append ls (l ∷ []) m o) [
-  | inl a ↦ h m a
-  | inr q ↦ elim q [ inl e ↦ subst (IsReached problem is_state allowed starts step) e r | inr z ↦ absurd z ]
-]
-
-pub ranked_push : {S : Type 0} (problem : Problem S) (is_state : S → ℕ → Type 0) (allowed : Activity → Bool) (starts : S → Type 0) (step : ℕ) (rs : List (Ranked S)) (r : Ranked S) → AreRankedReached problem is_state allowed starts step rs → IsReached problem is_state allowed starts step r.label →
-    AreRankedReached problem is_state allowed starts step (rs ++ r ∷ [])
-ranked_push problem is_state allowed starts step rs r h here m o = elim (one_of-append rs (r ∷ []) m o) [
-  | inl a ↦ h m a
-  | inr q ↦ elim q [ inl e ↦ subst (λ t. IsReached problem is_state allowed starts step t.label) e here | inr z ↦ absurd z ]
+-- what holds of each of a list, and of one more
+pub each_push : {X : Type 0} (P : X → Type 0) (xs : List X) (x : X) → ((y : X) → IsOneOf xs y → P y) → P x → (y : X) → IsOneOf (xs ++ x ∷ []) y → P y
+each_push P xs x h here y o = elim (one_of-append xs (x ∷ []) y o) [
+  | inl a ↦ h y a
+  | inr q ↦ elim q [ inl e ↦ subst P e here | inr z ↦ absurd z ]
 ]
 
 -- a finished label that is reached is a whole way
@@ -99,17 +90,17 @@ limit_of_guess problem allowed starts n (Some m) g h = (n, g, (let e = h m refl 
 
 -- ---- parts
 
-pub parts_none : {S : Type 0} → ArePartsOf {S = S} [] [] []
-parts_none = record { departed_there = λ l o. o; waiting_there = λ l o. o }
+pub parts_none : {X : Type 0} → ArePartsOf {X = X} [] [] []
+parts_none = record { departed_there = λ x o. o; others_there = λ x o. o }
 
-pub parts_departed : {S : Type 0} (ls departed waiting : List (Label S)) (l : Label S) → ArePartsOf ls departed waiting → ArePartsOf (ls ++ l ∷ []) (departed ++ l ∷ []) waiting
-parts_departed ls departed waiting l h = record {
-  departed_there = λ m o. elim (one_of-append departed (l ∷ []) m o) [ inl a ↦ one_of-append_left ls (l ∷ []) m (h.departed_there m a) | inr q ↦ one_of-append_right ls (l ∷ []) m q ];
-  waiting_there = λ m o. one_of-append_left ls (l ∷ []) m (h.waiting_there m o);
+pub parts_departed : {X : Type 0} (xs departed others : List X) (x : X) → ArePartsOf xs departed others → ArePartsOf (xs ++ x ∷ []) (departed ++ x ∷ []) others
+parts_departed xs departed others x h = record {
+  departed_there = λ y o. elim (one_of-append departed (x ∷ []) y o) [ inl a ↦ one_of-append_left xs (x ∷ []) y (h.departed_there y a) | inr q ↦ one_of-append_right xs (x ∷ []) y q ];
+  others_there = λ y o. one_of-append_left xs (x ∷ []) y (h.others_there y o);
 }
 
-pub parts_waiting : {S : Type 0} (ls departed waiting : List (Label S)) (l : Label S) → ArePartsOf ls departed waiting → ArePartsOf (ls ++ l ∷ []) departed (waiting ++ l ∷ [])
-parts_waiting ls departed waiting l h = record {
-  departed_there = λ m o. one_of-append_left ls (l ∷ []) m (h.departed_there m o);
-  waiting_there = λ m o. elim (one_of-append waiting (l ∷ []) m o) [ inl a ↦ one_of-append_left ls (l ∷ []) m (h.waiting_there m a) | inr q ↦ one_of-append_right ls (l ∷ []) m q ];
+pub parts_others : {X : Type 0} (xs departed others : List X) (x : X) → ArePartsOf xs departed others → ArePartsOf (xs ++ x ∷ []) departed (others ++ x ∷ [])
+parts_others xs departed others x h = record {
+  departed_there = λ y o. one_of-append_left xs (x ∷ []) y (h.departed_there y o);
+  others_there = λ y o. elim (one_of-append others (x ∷ []) y o) [ inl a ↦ one_of-append_left xs (x ∷ []) y (h.others_there y a) | inr q ↦ one_of-append_right xs (x ∷ []) y q ];
 }

@@ -1,11 +1,14 @@
 -- The terms of a search, and labels that are reached by them.
-use Rattle.std.specs.Prelude.{◌≡◌, ℕ, List, Option}
+use Rattle.std.specs.Prelude.{◌≡◌, ℕ, ◌<◌, List, Option}
 use Rattle.duty_core.specs.Params.{allows}
 use Rattle.rule_core.specs.Machine.{Machine}
+use Rattle.rule_core.specs.Reach.{IsOneOf}
 use Rattle.rule_core.specs.Replay.{AreRootStates}
 use Rattle.tour_model.specs.declared.label.Label.{Label}
+use Rattle.tour_model.specs.declared.limits.TheConstants.{STEP_LIMIT}
 use Rattle.tour_model.specs.Tour.{IsTour}
 use Rattle.cert_text.specs.CoverLists.Planning.{problem_of, state_at}
+use Rattle.label_search.specs.declared.guess.Departure.{Departure}
 use Rattle.label_search.specs.declared.guess.Ranked.{Ranked}
 use Rattle.label_search.specs.declared.terms.Terms.{Terms}
 use Rattle.label_search.specs.Searching.{IsRootState}
@@ -26,6 +29,14 @@ AreReachedBy terms m step ls = AreReached (problem_of terms.tour.now m) (state_a
 
 abbrev pub AreRankedBy : {B S : Type 0} → Terms B S → Machine S → ℕ → List (Ranked S) → Type 0
 AreRankedBy terms m step rs = AreRankedReached (problem_of terms.tour.now m) (state_at terms.tour.now m) (allows terms.tour.now.params) (IsRootState terms.roots.now) step rs
+
+-- The labels of a departure are reached.
+pub record IsDepartureBy {B S : Type 0} (terms : Terms B S) (m : Machine S) (d : Departure S) : Type 0 where
+  pub within : d.step < STEP_LIMIT
+  pub beam : AreReachedBy terms m d.step d.beam.items
+
+abbrev pub AreDeparturesBy : {B S : Type 0} → Terms B S → Machine S → List (Departure S) → Type 0
+AreDeparturesBy {B} {S} terms m ds = (d : Departure S) → IsOneOf ds d → IsDepartureBy terms m d
 
 -- Where a duration is guessed, some whole way from a root takes no more.
 abbrev pub IsGuessBy : {B S : Type 0} → Terms B S → Machine S → Option ℕ → Type 0

@@ -50,7 +50,7 @@ IsLessOf goal l step old new = (new ≡ old) ⊎ ((l.progress ≡ goal) × (new 
 abbrev pub IsLeastOf : {S : Type 0} → ℕ → List (Label S) → ℕ → Option ℕ → Option ℕ → Type 0
 IsLeastOf {S} goal ls step old new = (new ≡ old) ⊎ ((l : Label S) × IsOneOf ls l × (l.progress ≡ goal) × (new ≡ Some (taken step l)))
 
--- Each label of the two lists is one of the first.
-pub record ArePartsOf {S : Type 0} (ls departed waiting : List (Label S)) : Type 0 where
-  pub departed_there : (l : Label S) → IsOneOf departed l → IsOneOf ls l
-  pub waiting_there : (l : Label S) → IsOneOf waiting l → IsOneOf ls l
+-- Each of the two lists holds only what the first one does.
+pub record ArePartsOf {X : Type 0} (xs departed others : List X) : Type 0 where
+  pub departed_there : (x : X) → IsOneOf departed x → IsOneOf xs x
+  pub others_there : (x : X) → IsOneOf others x → IsOneOf xs x

@@ -8,7 +8,7 @@ ghost use Rattle.cert_text.specs.CoverLists.Planning.{problem_of, state_at};
 ghost use Rattle.label_dominance.specs.Offers.{AreStatesAt};
 ghost use Rattle.label_search.specs.Searching.{IsRootState, IsLimit};
 ghost use Rattle.label_search.specs.Ways.{IsLessOf, IsLeastOf, ArePartsOf};
-ghost use Rattle.label_search.specs.Terms.{AreTerms, IsReachedBy, AreReachedBy, AreRankedBy, IsGuessBy};
+ghost use Rattle.label_search.specs.Terms.{AreTerms, IsReachedBy, AreReachedBy, AreRankedBy, IsDepartureBy, AreDeparturesBy, IsGuessBy};
 
 use crate::terms::Terms;
 use cert_text::is_pruned;
@@ -18,19 +18,33 @@ use label_extend::successors;
 use label_state::Label;
 use rule_core::RuleBook;
 use std::alloc::Global;
+use std::cmp::Reverse;
 use tour_model::{STEP_LIMIT, Tour};
 
-/// How many labels the guess keeps of a step, which bounds its work.
-const BEAM: usize = 10;
+/// How many labels the guess keeps of a step after a departure, which bounds its work.
+const BEAM: usize = 40;
 
-/// How many labels the guess grows for each label of the search's budget, which bounds its work.
-const WORK: u32 = 10;
+/// How many labels the guess keeps of a step that have not departed, and how many that depart there.
+const FIRST: usize = 4;
+
+/// How many labels the guess may grow for each label of the search's budget: while it collects the
+/// departures, and again while it follows them. That bounds its work.
+const WORK: u32 = 2;
 
 /// A label, and the step at which it might end, by which it is ranked.
 #[derive(Drop)]
 struct Ranked<S> {
     ends: u32,
     label: Label<S>,
+}
+
+/// A departure: the least steps that a schedule might take that departs then, the step after it, and
+/// labels of that step, which have just departed.
+#[derive(Drop)]
+struct Departure<S> {
+    takes: u32,
+    step: u32,
+    beam: Vec<Label<S>>,
 }
 
 /// The least duration found so far, and how many labels may still be grown.
@@ -171,11 +185,13 @@ fn is_covered<B: RuleBook>(
     false
 }
 
-/// The labels that might end first, none of which is better than another, and not too many.
+/// At most so many of the labels, none of which an earlier one is better than: those that might end
+/// first, and of these the ones that have done most.
 fn thinned<B: RuleBook>(
     terms: &Terms<'_, B, B::State>,
     step: u32,
     list: Vec<Ranked<B::State>>,
+    most: usize,
 ) -> Result<Vec<Label<B::State>>, NoMemory>
     requires terms { AreTerms terms.now (B.machine terms.now.book.now) }
     requires list { AreRankedBy terms.now (B.machine terms.now.book.now) step list.items }
@@ -183,11 +199,12 @@ fn thinned<B: RuleBook>(
     ensures { IfOk result (λ beam. AreReachedBy terms.now (B.machine terms.now.book.now) step beam.items) }
 {
     let mut list = list;
+    list.sort_by_key(|ranked| Reverse(ranked.label.progress))?;
     list.sort_by_key(|ranked| ranked.ends)?;
     let mut beam = Vec::new(terms.alloc);
     for ranked in list {
         let label = ranked.label;
-        if beam.len() < BEAM && !is_covered(terms.book, terms.tour, &beam, &label, step) {
+        if beam.len() < most && !is_covered(terms.book, terms.tour, &beam, &label, step) {
             beam.push(label)?;
         }
     }
@@ -219,23 +236,21 @@ fn best_finished<S>(goal: u32, beam: &[Label<S>], step: u32, best: Option<u32>) 
     least
 }
 
-/// Follows the labels of this step to their ends, and keeps the best.
+/// Follows a departure to its ends, and keeps the best.
 fn follow<B: RuleBook>(
     terms: &Terms<'_, B, B::State>,
-    departed: Vec<Label<B::State>>,
-    first: u32,
+    departure: Departure<B::State>,
     guess: Guess,
 ) -> Result<Guess, NoMemory>
     requires terms { AreTerms terms.now (B.machine terms.now.book.now) }
-    requires departed { AreReachedBy terms.now (B.machine terms.now.book.now) first departed.items }
+    requires departure { IsDepartureBy terms.now (B.machine terms.now.book.now) departure }
     requires guess { IsGuessBy terms.now (B.machine terms.now.book.now) guess.best }
-    requires first { first < STEP_LIMIT }
     ensures { IfOk result (λ found. IsGuessBy terms.now (B.machine terms.now.book.now) found.best) }
 {
     let goal = terms.tour.word_len();
     let mut guess = guess;
-    let mut beam = departed;
-    let mut step = first;
+    let mut step = departure.step;
+    let mut beam = departure.beam;
     while step + 1 < STEP_LIMIT && !beam.is_empty() && guess.work > 0 {
         guess = Guess {
             best: best_finished(goal, &beam, step, guess.best),
@@ -243,7 +258,7 @@ fn follow<B: RuleBook>(
         };
         let grown = grow_beam(terms, guess.best, step, &beam)?;
         step += 1;
-        beam = thinned(terms, step, grown)?;
+        beam = thinned(terms, step, grown, BEAM)?;
     }
     Ok(guess)
 }
@@ -251,41 +266,91 @@ fn follow<B: RuleBook>(
 /// The labels that have departed, and the others.
 #[derive(Drop)]
 struct Parted<S> {
-    departed: Vec<Label<S>>,
-    waiting: Vec<Label<S>>,
+    departed: Vec<Ranked<S>>,
+    others: Vec<Ranked<S>>,
 }
 
 /// Parts the labels by whether they have departed.
-fn part_by_departure<S: Drop>(alloc: Global, beam: Vec<Label<S>>) -> Result<Parted<S>, NoMemory>
-    ensures { IfOk result (λ parts. ArePartsOf beam.items parts.departed.items parts.waiting.items) }
+fn part_by_departure<S: Drop>(alloc: Global, list: Vec<Ranked<S>>) -> Result<Parted<S>, NoMemory>
+    ensures { IfOk result (λ parts. ArePartsOf list.items parts.departed.items parts.others.items) }
 {
     let mut departed = Vec::new(alloc);
-    let mut waiting = Vec::new(alloc);
-    for label in beam {
-        if label.depart.is_some() {
-            departed.push(label)?;
+    let mut others = Vec::new(alloc);
+    for ranked in list {
+        if ranked.label.depart.is_some() {
+            departed.push(ranked)?;
         } else {
-            waiting.push(label)?;
+            others.push(ranked)?;
         }
     }
-    Ok(Parted { departed, waiting })
+    Ok(Parted { departed, others })
 }
 
-/// The duration of some solution, where a quick search finds one.
+/// The least step at which one of the labels might end.
+fn first_end<S>(list: &[Ranked<S>]) -> Option<u32> {
+    list.iter().map(|ranked| ranked.ends).min()
+}
+
+/// Adds the departure that these labels make, which have just departed at this step, where there
+/// are some.
+fn add_departure<B: RuleBook>(
+    terms: &Terms<'_, B, B::State>,
+    depart: u32,
+    departed: Vec<Ranked<B::State>>,
+    list: &mut Vec<Departure<B::State>>,
+) -> Result<(), NoMemory>
+    requires terms { AreTerms terms.now (B.machine terms.now.book.now) }
+    requires departed { AreRankedBy terms.now (B.machine terms.now.book.now) (depart + 1) departed.items }
+    requires list { AreDeparturesBy terms.now (B.machine terms.now.book.now) list.old.items }
+    requires depart { depart + 1 < STEP_LIMIT }
+    ensures ok { OnOk result (AreDeparturesBy terms.now (B.machine terms.now.book.now) list.new.items) }
+{
+    if let Some(ends) = first_end(&departed) {
+        let takes = ends.saturating_sub(depart);
+        let step = depart + 1;
+        let beam = thinned(terms, step, departed, FIRST)?;
+        list.push(Departure { takes, step, beam })?;
+    }
+    Ok(())
+}
+
+/// The departures, by the least that a schedule might take that departs then. Labels that have not
+/// departed go along the steps, a few of each; those of their successors that depart make a departure.
+fn departures<B: RuleBook>(
+    terms: &Terms<'_, B, B::State>,
+    work: usize,
+) -> Result<Vec<Departure<B::State>>, NoMemory>
+    requires { AreTerms terms.now (B.machine terms.now.book.now) }
+    ensures { IfOk result (λ list. AreDeparturesBy terms.now (B.machine terms.now.book.now) list.items) }
+{
+    let mut list = Vec::new(terms.alloc);
+    let mut waiting = root_beam(terms)?;
+    let mut work = work;
+    let mut depart = 0;
+    while depart + 1 < STEP_LIMIT && !waiting.is_empty() && work > 0 {
+        work = work.saturating_sub(waiting.len());
+        let grown = grow_beam(terms, None, depart, &waiting)?;
+        let Parted { departed, others } = part_by_departure(terms.alloc, grown)?;
+        add_departure(terms, depart, departed, &mut list)?;
+        depart += 1;
+        waiting = thinned(terms, depart, others, FIRST)?;
+    }
+    list.sort_by_key(|departure| departure.takes)?;
+    Ok(list)
+}
+
+/// The duration of some solution, where a quick search finds one: it follows the departures in
+/// turn, until the next might take as long as the best that was found.
 fn guessed<B: RuleBook>(terms: &Terms<'_, B, B::State>, work: usize) -> Result<Guess, NoMemory>
     requires { AreTerms terms.now (B.machine terms.now.book.now) }
     ensures { IfOk result (λ found. IsGuessBy terms.now (B.machine terms.now.book.now) found.best) }
 {
     let mut guess = Guess { best: None, work };
-    let mut waiting = root_beam(terms)?;
-    let mut step = 0;
-    while step + 1 < STEP_LIMIT && !waiting.is_empty() && guess.work > 0 {
-        let grown = grow_beam(terms, guess.best, step, &waiting)?;
-        step += 1;
-        let beam = thinned(terms, step, grown)?;
-        let parts = part_by_departure(terms.alloc, beam)?;
-        guess = follow(terms, parts.departed, step, guess)?;
-        waiting = parts.waiting;
+    for departure in departures(terms, work)? {
+        if guess.best.is_some_and(|best| best <= departure.takes) {
+            return Ok(guess);
+        }
+        guess = follow(terms, departure, guess)?;
     }
     Ok(guess)
 }

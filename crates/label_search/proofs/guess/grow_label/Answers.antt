@@ -11,9 +11,9 @@ use Rattle.cert_text.specs.CoverLists.Planning.{problem_of, state_at, minute_of}
 use Rattle.cert_text.specs.CoverLists.Cover.{IsLabelAt}
 use Rattle.cert_text.specs.CoverLists.Laws.ProblemOf.{problem_laws}
 use Rattle.label_search.specs.Searching.{IsRootState}
-use Rattle.label_search.specs.Ways.{AreRankedReached}
+use Rattle.label_search.specs.Ways.{IsReached, AreRankedReached}
 use Rattle.label_search.proofs.AnswerLaws.{root_state}
-use Rattle.label_search.proofs.GuessLaws.{grown_reached, ranked_push}
+use Rattle.label_search.proofs.GuessLaws.{grown_reached, each_push}
 use Rattle.label_search.proofs.guess.grow_label.Goals as goal
 use Rattle.label_search.proofs.guess.grow_label.Goals.{In-Some}
 
@@ -57,6 +57,6 @@ loop-grown-preserved-in_ok-push g c =
       can = tt;
       finite = tt;
       reached = subst (AreRankedReached problem is_state (allows tour.params) starts (step + 1)) (sym c.in_ok-push.ensures.items)
-          (ranked_push problem is_state (allows tour.params) starts (step + 1) c.loop-grown.list.items _ c.loop-grown.invariant.reached
+          (each_push (λ r. IsReached problem is_state (allows tour.params) starts (step + 1) r.label) c.loop-grown.list.items _ c.loop-grown.invariant.reached
           (grown_reached problem is_state (allows tour.params) starts (problem_laws tour m law c.requires.terms.tour) states step c.args.label.now c.in-Some.grown c.requires.label o bound (label_of g some)));
     }

@@ -4,8 +4,8 @@ use Rattle.rule_core.specs.Laws.OneOf.{one_of_item}
 use Rattle.cert_text.specs.CoverLists.Problem.{root_label}
 use Rattle.cert_text.specs.CoverLists.Planning.{problem_of, state_at, minute_of}
 use Rattle.label_search.specs.Searching.{IsRootState}
-use Rattle.label_search.specs.Ways.{AreReached}
-use Rattle.label_search.proofs.GuessLaws.{root_reached, reached_push}
+use Rattle.label_search.specs.Ways.{IsReached, AreReached}
+use Rattle.label_search.proofs.GuessLaws.{root_reached, each_push}
 use Rattle.label_search.proofs.guess.root_beam.Goals as goal
 
 pub loop-root-preserved : goal.loop-root-preserved
@@ -21,4 +21,4 @@ loop-root-preserved g c =
     let e : tour.start ≡ minute_of tour 0 = omega arith in
     let there = subst (λ t. (g.B.RuleBook.machine book).is_state t (minute_of tour 0)) (sym c.in_ok-copy.ensures.same) (subst ((g.B.RuleBook.machine book).is_state x.state) e (c.requires.roots x o)) in
     subst (AreReached problem is_state (allows tour.params) starts 0) (sym c.in_ok-push.ensures.items)
-    (reached_push problem is_state (allows tour.params) starts 0 c.loop-root.beam.items (root_label s) c.loop-root.invariant (root_reached problem is_state (allows tour.params) starts s (x, o, sym c.in_ok-copy.ensures.same) there))
+    (each_push (IsReached problem is_state (allows tour.params) starts 0) c.loop-root.beam.items (root_label s) c.loop-root.invariant (root_reached problem is_state (allows tour.params) starts s (x, o, sym c.in_ok-copy.ensures.same) there))
