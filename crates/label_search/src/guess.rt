@@ -3,7 +3,6 @@
 ghost use Rattle.std.specs.Prelude.{◌≡◌, ℕ, ◌+◌, ◌^◌, ◌<◌, ◌≤◌, List, length, IfOk, OnOk};
 ghost use Rattle.duty_core.specs.Params.{allows};
 ghost use Rattle.tour_model.specs.declared.limits.TheConstants.{STEP_LIMIT};
-ghost use Rattle.tour_model.specs.Tour.{IsTour};
 ghost use Rattle.cert_text.specs.CoverLists.Planning.{problem_of, state_at};
 ghost use Rattle.label_dominance.specs.Offers.{AreStatesAt};
 ghost use Rattle.label_search.specs.Searching.{IsRootState, IsLimit};
@@ -95,18 +94,18 @@ fn work_left(tour: &Tour, progress: u32) -> Left {
 /// The step at which a label that is at this step might end at the earliest, as far as is known
 /// without a search: not before `eta`, nor before its work and the rests that it still owes are done.
 fn ends_about<B: RuleBook>(
-    book: &B,
-    tour: &Tour,
+    terms: &Terms<'_, B, B::State>,
     label: &Label<B::State>,
     step: u32,
     eta: u32,
 ) -> u32
-    requires { IsTour tour.now }
+    requires { AreTerms terms.now (B.machine terms.now.book.now) }
 {
+    let tour = terms.tour;
     let left = work_left(tour, label.progress);
     let driving = left.driving.saturating_mul(tour.grid);
     let service = left.service.saturating_mul(tour.grid);
-    let rest = book.least_rest(&label.state, driving, service);
+    let rest = terms.book.least_rest(&label.state, driving, service);
     let rests = rest.saturating_add(tour.grid - 1) / tour.grid;
     let work = left.driving.saturating_add(left.service);
     eta.max(step.saturating_add(work).saturating_add(rests))
@@ -135,7 +134,7 @@ fn grow_label<B: RuleBook>(
     for grown in successors(alloc, book, tour, label, step)?.into_vec() {
         let label = grown.label;
         if let Some(eta) = tour.eta(step + 1, label.progress) {
-            let ends = ends_about(book, tour, &label, step + 1, eta);
+            let ends = ends_about(terms, &label, step + 1, eta);
             if !is_pruned(best, label.depart, Some(ends)) {
                 list.push(Ranked { ends, label })?;
             }
@@ -165,20 +164,18 @@ fn grow_beam<B: RuleBook>(
 
 /// Whether one of the labels is better than this one.
 fn is_covered<B: RuleBook>(
-    book: &B,
-    tour: &Tour,
+    terms: &Terms<'_, B, B::State>,
     beam: &[Label<B::State>],
     label: &Label<B::State>,
     step: u32,
 ) -> bool
-    requires tour { IsTour tour.now }
-    requires params { (B.machine book.now).params ≡ tour.now.params }
-    requires beam { AreStatesAt (state_at tour.now (B.machine book.now)) step beam.now }
-    requires label { state_at tour.now (B.machine book.now) label.now.state step }
+    requires terms { AreTerms terms.now (B.machine terms.now.book.now) }
+    requires beam { AreStatesAt (state_at terms.now.tour.now (B.machine terms.now.book.now)) step beam.now }
+    requires label { state_at terms.now.tour.now (B.machine terms.now.book.now) label.now.state step }
     requires step { step < STEP_LIMIT }
 {
     for other in beam {
-        if better(book, tour, other, label, step) {
+        if better(terms.book, terms.tour, other, label, step) {
             return true;
         }
     }
@@ -204,7 +201,7 @@ fn thinned<B: RuleBook>(
     let mut beam = Vec::new(terms.alloc);
     for ranked in list {
         let label = ranked.label;
-        if beam.len() < most && !is_covered(terms.book, terms.tour, &beam, &label, step) {
+        if beam.len() < most && !is_covered(terms, &beam, &label, step) {
             beam.push(label)?;
         }
     }
