@@ -1,6 +1,6 @@
 //! A first guess at the shortest duration: a quick search that keeps few labels. It proves only that
 //! some solution takes no more than what it finds.
-ghost use Rattle.std.specs.Prelude.{◌≡◌, ℕ, ◌+◌, ◌^◌, ◌<◌, ◌≤◌, List, length, IfOk, OnOk};
+ghost use Rattle.std.specs.Prelude.{◌+◌, ◌<◌, IfOk, OnOk};
 ghost use Rattle.duty_core.specs.Params.{allows};
 ghost use Rattle.tour_model.specs.declared.limits.TheConstants.{STEP_LIMIT};
 ghost use Rattle.cert_text.specs.CoverLists.Planning.{problem_of, state_at};
