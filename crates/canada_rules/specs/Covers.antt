@@ -1,10 +1,11 @@
 -- When a state may stand for another, and the idle activities to try.
-use Rattle.std.proofs.Common.{ℕ, ◌+◌, Bool, true, false, ◌&&◌, ◌||◌, List, length, zero, suc}
+use Rattle.std.proofs.Common.{ℕ, ◌+◌, Bool, true, false, ◌&&◌, ◌||◌, List, length}
 use Rattle.std.specs.Prelude.{nat_eq, nat_le, not}
 use Rattle.duty_core.specs.declared.params.RestWay.{RestWay}
 use Rattle.duty_core.specs.declared.params.RestWay.TheVariants.{Split, Defer}
 use Rattle.duty_core.specs.declared.limits.TheConstants.{CA_LOST_LIMIT}
-use Rattle.day_sums.specs.Sums.{first_days}
+use Rattle.duty_core.specs.CaCycle.{cycle_limit}
+use Rattle.day_sums.specs.Sums.{leaves_no_less}
 use Rattle.day_sums.specs.Counted.{turned}
 use Rattle.sleeper_split.specs.declared.rule.TheConstants.SplitRule.{CANADA}
 use Rattle.sleeper_split.specs.Covers.{covers_count}
@@ -47,14 +48,9 @@ abbrev pub days_cover : CanadaDays → CanadaDays → Bool
 days_cover a b =
     same_way a.way b.way && (nat_eq a.minute b.minute && (nat_le b.rest a.rest && (loses_no_more a.today b.today && (yesterday_covers a b && ends_as_well a b))))
 
--- of each number of youngest days up to n the duty is no more
-abbrev pub sums_within : ℕ → List ℕ → List ℕ → Bool
-sums_within zero a b = true
-sums_within (suc n) a b = sums_within n a b && nat_le (first_days (suc n) a) (first_days (suc n) b)
-
--- of each number of youngest days the duty is no more, where a day may begin
-abbrev pub sums_cover : Bool → List ℕ → List ℕ → Bool
-sums_cover new a b = nat_eq (length a) (length b) && sums_within (length b) (turned new a) (turned new b)
+-- as many sums leave no less of the limit after each number of day turns
+abbrev pub sums_cover : ℕ → List ℕ → List ℕ → Bool
+sums_cover limit xs ys = nat_eq (length xs) (length ys) && leaves_no_less limit (length xs) xs ys
 
 -- the day off is no longer ago, and duty without one no more
 abbrev pub day_off_covers : CycleCount → CycleCount → Bool
@@ -62,7 +58,7 @@ day_off_covers a b = nat_le a.since b.since && nat_le a.without b.without
 
 -- the counts of a cycle may stand for others, where the next minute begins a day or not
 abbrev pub cycle_covers : Bool → CycleCount → CycleCount → Bool
-cycle_covers new a b = nat_eq a.cycle b.cycle && (nat_le b.rest a.rest && (sums_cover new a.sums b.sums && day_off_covers a b))
+cycle_covers new a b = nat_eq a.cycle b.cycle && (nat_le b.rest a.rest && (sums_cover (cycle_limit b.cycle) (turned new a.sums) (turned new b.sums) && day_off_covers a b))
 
 abbrev pub calendar_covers : Bool → Calendar → Calendar → Bool
 calendar_covers new a b = day_covers (day_begun new a.day) (day_begun new b.day) && (days_cover (days_begun new a.days) (days_begun new b.days) && cycle_covers new a.cycle b.cycle)

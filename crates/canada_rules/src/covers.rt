@@ -1,9 +1,9 @@
 //! What is counted by days, where it may stand for others.
-ghost use Rattle.std.specs.Prelude.{◌≡◌, length};
-ghost use Rattle.day_sums.specs.Sums.{AreSums};
+ghost use Rattle.std.specs.Prelude.{◌≡◌};
+ghost use Rattle.duty_core.specs.CaCycle.{cycle_limit};
 ghost use Rattle.day_sums.specs.Counted.{turned};
 ghost use Rattle.cycles_deferral.specs.DayMachine.{IsCanadaDays, days_begun};
-ghost use Rattle.canada_rules.specs.Covers.{day_covers, days_cover, sums_within, sums_cover, day_off_covers, cycle_covers, calendar_covers};
+ghost use Rattle.canada_rules.specs.Covers.{day_covers, days_cover, sums_cover, day_off_covers, cycle_covers, calendar_covers};
 
 use crate::state::{Calendar, DayDuty};
 use cycles_deferral::{CanadaDays, CycleCount};
@@ -47,7 +47,9 @@ fn cycle_covers(a: &CycleCount, b: &CycleCount, new_day: bool) -> bool
 {
     let same = a.cycle() == b.cycle();
     let rested = b.rest() <= a.rest();
-    let sums = sums_cover(a.sums(), b.sums(), new_day);
+    let ours = turned(a.sums(), new_day);
+    let theirs = turned(b.sums(), new_day);
+    let sums = sums_cover(ours, theirs, b.limit());
     let day_off = day_off_covers(a, b);
     same && (rested && (sums && day_off))
 }
@@ -59,16 +61,11 @@ fn day_off_covers(a: &CycleCount, b: &CycleCount) -> bool
     a.since() <= b.since() && a.without() <= b.without()
 }
 
-/// Whether of each number of youngest days the duty is no more, where a day may begin.
-fn sums_cover(a: DaySums, b: DaySums, new_day: bool) -> bool
-    ensures { result ≡ sums_cover new_day a b }
+/// Whether as many sums leave no less of the limit after each number of day turns.
+fn sums_cover(a: DaySums, b: DaySums, limit: u32) -> bool
+    ensures { result ≡ sums_cover limit a b }
 {
-    if a.days() != b.days() {
-        return false;
-    }
-    let first = turned(a, new_day);
-    let other = turned(b, new_day);
-    sums_within(first.sums(), other.sums())
+    a.days() == b.days() && a.leaves_no_less(&b, limit)
 }
 
 /// The sums where a day may begin.
@@ -80,23 +77,4 @@ fn turned(sums: DaySums, new_day: bool) -> DaySums
         sums.roll_day();
     }
     sums
-}
-
-/// Whether of each number of youngest days the sum is no more.
-fn sums_within(a: &[u32], b: &[u32]) -> bool
-    requires same { length a.now ≡ length b.now }
-    requires kept { AreSums a.now }
-    requires other_kept { AreSums b.now }
-    ensures { result ≡ sums_within (length b.now) a.now b.now }
-{
-    let mut first = 0;
-    let mut other = 0;
-    for n in 0..b.len() {
-        first += a[n];
-        other += b[n];
-        if other < first {
-            return false;
-        }
-    }
-    true
 }

@@ -1,20 +1,17 @@
 -- When the counts of a cycle of one history may stand for those of another of the same length and first minute, whatever comes next.
-use Rattle.std.proofs.Common.{◌≡◌, ℕ, ◌≤◌, Bool, List, length}
+use Rattle.std.proofs.Common.{◌≡◌, ◌≤◌, Bool, length}
 use Rattle.std.specs.Prelude.{Option, Some}
-use Rattle.day_sums.specs.Sums.{first_days}
+use Rattle.duty_core.specs.CaCycle.{cycle_limit}
+use Rattle.day_sums.specs.Sums.{LeavesNoLess}
 use Rattle.day_sums.specs.Counted.{turned}
 use Rattle.cycles_deferral.specs.declared.cycle.CycleCount.{CycleCount}
 
--- of each number of youngest days the duty is no more
-abbrev pub SumsNoMore : List ℕ → List ℕ → Type 0
-SumsNoMore a b = (n : ℕ) → n ≤ length b → first_days n a ≤ first_days n b
-
--- The counts a may stand for b, where their sums are those of the day of the next minute: `new` tells whether it begins one.
+-- The counts a may stand for b, where their sums are those of the day of the next minute: `new` tells whether it begins one. Duty beyond the limit of the cycle is all alike.
 pub record CycleCovers (new : Bool) (a b : CycleCount) : Type 0 where
   pub same_cycle : a.cycle ≡ b.cycle
   pub rested : b.rest ≤ a.rest
   pub same_days : length a.sums ≡ length b.sums
-  pub sums_no_more : SumsNoMore (turned new a.sums) (turned new b.sums)
+  pub left : LeavesNoLess (cycle_limit b.cycle) (length b.sums) (turned new a.sums) (turned new b.sums)
   pub since_no_more : a.since ≤ b.since
   pub without_no_more : a.without ≤ b.without
 

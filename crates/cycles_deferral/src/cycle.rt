@@ -114,6 +114,17 @@ impl CycleCount {
         self.cycle
     }
 
+    /// The duty of the cycle that driving allows, in minutes (SOR/2005-313, sections 26 and 27).
+    pub fn limit(&self) -> u32
+        ensures { result ≡ cycle_limit self.now.cycle }
+    {
+        if self.cycle as u32 == CA_CYCLE_1 {
+            CA_CYCLE_1_LIMIT
+        } else {
+            CA_CYCLE_2_LIMIT
+        }
+    }
+
     /// The rest run in progress, in minutes, up to a reset.
     pub fn rest(&self) -> u32
         ensures { result ≡ self.now.rest }
@@ -231,12 +242,7 @@ impl CycleCount {
     fn keeps_limits(self) -> bool
         ensures { result ≡ keeps_cycle self }
     {
-        let limit = if self.cycle as u32 == CA_CYCLE_1 {
-            CA_CYCLE_1_LIMIT
-        } else {
-            CA_CYCLE_2_LIMIT
-        };
-        self.sums.total() <= limit && self.without <= CA_WITHOUT_DAY_OFF_LIMIT
+        self.sums.total() <= self.limit() && self.without <= CA_WITHOUT_DAY_OFF_LIMIT
     }
 }
 

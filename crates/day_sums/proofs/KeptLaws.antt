@@ -1,11 +1,11 @@
 -- What each call leaves of the numbers that are kept, and how large sums of them are.
-use Rattle.std.proofs.Common.{◌≡◌, ℕ, ◌+◌, ◌-◌, ◌^◌, ◌<◌, ◌≤◌, List, [], ◌∷◌, ◌++◌, length, take, drop, sym, ◌∙◌, ap, subst, arith, length-append, zero, suc, set, get_or, inl, inr}
+use Rattle.std.proofs.Common.{◌≡◌, ℕ, ◌+◌, ◌-◌, ◌^◌, ◌<◌, ◌≤◌, List, [], ◌∷◌, ◌++◌, length, take, drop, slice_index_or, sym, ◌∙◌, ap, subst, arith, length-append, zero, suc, set, get_or, inl, inr}
 use Rattle.std.specs.Prelude.{sum, replicate, All}
 use Rattle.std.proofs.lemmas.List.{take_at, drop_at, length-take-le, length-replicate}
 use Rattle.std.proofs.lemmas.List.Elements.{All-take, All-cons}
-use Rattle.std.proofs.lemmas.List.Sums.{sum_by-le, sum_by-take-le}
+use Rattle.std.proofs.lemmas.List.Sums.{sum_by-cons, sum_by-le, sum_by-take-le}
 use Rattle.duty_core.specs.declared.limits.TheConstants.{DAY_MINUTES}
-use Rattle.day_sums.specs.Sums.{IsDays, today, AreSums, AreKept}
+use Rattle.day_sums.specs.Sums.{IsDays, first_days, today, AreSums, AreKept}
 use Rattle.day_sums.specs.Laws.SumLaws.{take_within}
 
 pub days_few : (days : ℕ) → IsDays days → days ≤ 14
@@ -22,6 +22,16 @@ sum_fits sums h = let a = sum_by-le (λ x. x) 1440 sums h.within in let c = days
 
 pub kept_days : (days : ℕ) (kept : List ℕ) → AreKept days kept → IsDays days
 kept_days days kept h = subst IsDays (length-take-le days kept (let a = h.long in let b = h.few in omega arith)) h.sums.days
+
+-- one more day
+pub first_more : (n : ℕ) (xs : List ℕ) (d : ℕ) → n < length xs → first_days (suc n) xs ≡ first_days n xs + slice_index_or xs n d
+first_more n [] d l = absurd (omega arith)
+first_more zero (x ∷ xs) d l = sum_by-cons (λ y. y) x [] ∙ (let z : x + 0 ≡ 0 + x = omega arith in z)
+first_more (suc n) (x ∷ xs) d l =
+    let a = sum_by-cons (λ y. y) x (take (suc n) xs) in
+    let b = sum_by-cons (λ y. y) x (take n xs) in
+    let c = first_more n xs d (omega arith) in
+    omega arith
 
 -- one day has more, and within its limit
 pub kept_added : (days n : ℕ) (kept : List ℕ) → AreKept days kept → today (take days kept) + n ≤ DAY_MINUTES → AreKept days (set kept 0 (get_or kept 0 0 + n))

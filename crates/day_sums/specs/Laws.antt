@@ -1,5 +1,4 @@
 -- What follows from the definitions, for the contracts and proofs of this crate and of those above it.
-pub mod Sums
 pub mod SumLaws
 pub mod Counted
 pub mod LeftLaws

@@ -28,6 +28,10 @@ abbrev pub today : List ℕ → ℕ
 today [] = 0
 today (x ∷ xs) = x
 
+-- After each number of day turns that leaves at most so many days, the sums xs leave no less of the limit than the sums ys.
+abbrev pub LeavesNoLess : ℕ → ℕ → List ℕ → List ℕ → Type 0
+LeavesNoLess limit days xs ys = (n : ℕ) → n ≤ days → limit - first_days n ys ≤ limit - first_days n xs
+
 -- the same as a test
 abbrev pub leaves_no_less : ℕ → ℕ → List ℕ → List ℕ → Bool
 leaves_no_less limit zero xs ys = true

@@ -1,7 +1,7 @@
 //! The sums of the last days.
-ghost use Rattle.std.specs.Prelude.{◌≡◌, ◌+◌, ◌-◌, ◌^◌, ◌<◌, ◌≤◌, ◌↔◌, length, replicate, sum, IsSome, IfSome};
+ghost use Rattle.std.specs.Prelude.{◌≡◌, ◌+◌, ◌^◌, ◌<◌, ◌≤◌, ◌↔◌, length, replicate, sum, IsSome, IfSome};
 ghost use Rattle.duty_core.specs.declared.limits.TheConstants.{DAY_MINUTES};
-ghost use Rattle.day_sums.specs.Sums.{IsDays, first_days, added, rolled, cleared, today, AreSums, leaves_no_less};
+ghost use Rattle.day_sums.specs.Sums.{IsDays, added, rolled, cleared, today, AreSums, leaves_no_less};
 
 use duty_core::DAY_MINUTES;
 use std::marker::Model;
@@ -123,26 +123,33 @@ impl DaySums {
         sum_of(self.sums())
     }
 
-    /// `limit` less the duty that still counts after so many day turns, or 0.
-    pub fn left_after(&self, limit: u32, rolls: u8) -> u32
-        ensures { result ≡ limit - first_days (length self.now - rolls) self.now }
-    {
-        let days = self.days.saturating_sub(rolls) as usize;
-        limit.saturating_sub(sum_of(&self.sums()[..days]))
-    }
-
     /// Whether these sums leave no less of the limit than the others, of as many days, after each
     /// number of day turns.
     pub fn leaves_no_less(&self, other: &DaySums, limit: u32) -> bool
         requires { length self.now ≡ length other.now }
         ensures { result ≡ leaves_no_less limit (length self.now) self.now other.now }
     {
-        let days = self.days();
-        for rolls in 0..days {
-            if other.left_after(limit, rolls) > self.left_after(limit, rolls) {
-                return false;
-            }
-        }
-        true
+        sums_leave_no_less(self.sums(), other.sums(), limit)
     }
+}
+
+/// Whether of each number of youngest days the first sums leave no less of the limit.
+fn sums_leave_no_less(sums: &[u32], others: &[u32], limit: u32) -> bool
+    requires same { length sums.now ≡ length others.now }
+    requires kept { AreSums sums.now }
+    requires others_kept { AreSums others.now }
+    ensures { result ≡ leaves_no_less limit (length sums.now) sums.now others.now }
+{
+    let mut first = 0;
+    let mut other = 0;
+    for n in 0..sums.len() {
+        first += sums[n];
+        other += others[n];
+        let left = limit.saturating_sub(first);
+        let left_other = limit.saturating_sub(other);
+        if left < left_other {
+            return false;
+        }
+    }
+    true
 }

@@ -1,7 +1,7 @@
 -- When a state may stand for another, and the idle activities to try.
-use Rattle.std.proofs.Common.{◌≡◌, ◌↔◌, ℕ, ◌+◌, ◌-◌, ◌≤◌, Bool, true, false, ◌&&◌, ◌||◌, List, length, refl, sym, ◌∙◌, subst, arith, ◌⊎◌, inl, inr, zero, suc}
+use Rattle.std.proofs.Common.{◌≡◌, ◌↔◌, ℕ, ◌+◌, ◌-◌, ◌≤◌, Bool, true, false, ◌&&◌, ◌||◌, List, length, refl, sym, ◌∙◌, subst, arith, ◌⊎◌, inl, inr}
 use Rattle.std.specs.Prelude.{Option, nat_eq, nat_le, not}
-use Rattle.std.proofs.lemmas.Bool.{or_cases, or_left, or_right, cases_lt}
+use Rattle.std.proofs.lemmas.Bool.{or_cases, or_left, or_right}
 use Rattle.std.proofs.lemmas.Bool.Decides.{nat_tests}
 use Rattle.duty_core.specs.declared.activity.Activity.{Activity}
 use Rattle.duty_core.specs.declared.activity.Activity.TheVariants.{Drive, Serve, Wait, Off, Berth}
@@ -11,8 +11,9 @@ use Rattle.duty_core.specs.declared.params.RestWay.TheVariants.{Split, Defer}
 use Rattle.duty_core.specs.declared.params.Params.TheVariants.{Canada}
 use Rattle.duty_core.specs.declared.limits.TheConstants.{CA_LOST_LIMIT, CA_DAY_DRIVING_LIMIT, CA_DAY_DUTY_LIMIT}
 use Rattle.duty_core.specs.Params.{allows}
-use Rattle.day_sums.specs.Sums.{first_days}
-use Rattle.day_sums.specs.Laws.SumLaws.{first_none}
+use Rattle.duty_core.specs.CaCycle.{cycle_limit}
+use Rattle.day_sums.specs.Sums.{LeavesNoLess, leaves_no_less}
+use Rattle.day_sums.specs.Laws.LeftLaws.{leaves_decides}
 use Rattle.day_sums.specs.Counted.{turned}
 use Rattle.day_sums.specs.Laws.Counted.{length-turned}
 use Rattle.rule_core.specs.declared.nexts.Next.{Next}
@@ -38,7 +39,7 @@ use Rattle.canada_rules.specs.declared.state.CanadaState.{CanadaState}
 use Rattle.canada_rules.specs.Machine.{ca_fits, ca_may, begins_day, ca_date, day_begun, day_more, day_after, day_keeps, calendar_made, ca_next, ca_nexts, IsCanadaState}
 use Rattle.canada_rules.specs.Laws.CalendarSteps.{after_means, means_after}
 use Rattle.canada_rules.specs.Laws.Paths.{next_means, means_next}
-use Rattle.canada_rules.specs.Covers.{day_covers, same_way, loses_no_more, yesterday_covers, ends_as_well, days_cover, sums_within, cycle_covers, covers_state}
+use Rattle.canada_rules.specs.Covers.{day_covers, same_way, loses_no_more, yesterday_covers, ends_as_well, days_cover, cycle_covers, covers_state}
 
 -- # What the tests mean
 
@@ -173,43 +174,42 @@ days_decide a b =
           (and_both y e (yesterday_from a b h.yesterday) (ends_from a b h.ends)))))),
     )
 
-sums_mean : (n : ℕ) (a b : List ℕ) → sums_within n a b ≡ true → (k : ℕ) → k ≤ n → first_days k a ≤ first_days k b
-sums_mean zero a b h k l = (let e : k ≡ 0 = omega arith in subst (λ m. first_days m a ≤ first_days m b) (sym e) (let z = first_none a in let y = first_none b in omega arith))
-sums_mean (suc n) a b h k l = elim (cases_lt n k) [
-  | inr m ↦ sums_mean n a b (and_left (sums_within n a b) (nat_le (first_days (suc n) a) (first_days (suc n) b)) h) k m
-  | inl m ↦ (let e : k ≡ suc n = omega arith in subst (λ m. first_days m a ≤ first_days m b) (sym e) (upto (first_days (suc n) a) (first_days (suc n) b) (and_right (sums_within n a b) (nat_le (first_days (suc n) a) (first_days (suc n) b)) h)))
-]
-
-sums_from : (n : ℕ) (a b : List ℕ) → ((k : ℕ) → k ≤ n → first_days k a ≤ first_days k b) → sums_within n a b ≡ true
-sums_from zero a b h = refl
-sums_from (suc n) a b h = and_both (sums_within n a b) (nat_le (first_days (suc n) a) (first_days (suc n) b)) (sums_from n a b (λ k l. h k (omega arith))) (is_upto (first_days (suc n) a) (first_days (suc n) b) (h (suc n) (omega arith)))
+same_count : (new : Bool) (xs ys : List ℕ) → length xs ≡ length ys → length (turned new xs) ≡ length (turned new ys)
+same_count new xs ys e = length-turned new xs ∙ (e ∙ sym (length-turned new ys))
 
 pub cycle_decides : (new : Bool) (a b : CycleCount) → (cycle_covers new a b ≡ true) ↔ CycleCovers new a b
 cycle_decides new a b =
+    let limit : ℕ = cycle_limit b.cycle in
+    let xs : List ℕ = turned new a.sums in
+    let ys : List ℕ = turned new b.sums in
     let c : Bool = nat_eq a.cycle b.cycle in
     let r : Bool = nat_le b.rest a.rest in
-    let l : Bool = nat_eq (length a.sums) (length b.sums) in
-    let s : Bool = sums_within (length b.sums) (turned new a.sums) (turned new b.sums) in
+    let l : Bool = nat_eq (length xs) (length ys) in
+    let s : Bool = leaves_no_less limit (length xs) xs ys in
     let o : Bool = nat_le a.since b.since in
     let w : Bool = nat_le a.without b.without in
-    let n : length (turned new b.sums) ≡ length b.sums = length-turned new b.sums in (
+    let m : length xs ≡ length a.sums = length-turned new a.sums in
+    let n : length ys ≡ length b.sums = length-turned new b.sums in (
       (λ h.
           let h1 = and_right c (r && ((l && s) && (o && w))) h in
           let h2 = and_right r ((l && s) && (o && w)) h1 in
           let h3 = and_left (l && s) (o && w) h2 in
           let h4 = and_right (l && s) (o && w) h2 in
+          let e : length xs ≡ length ys = same (length xs) (length ys) (and_left l s h3) in
           record {
             same_cycle = same a.cycle b.cycle (and_left c (r && ((l && s) && (o && w))) h);
             rested = upto b.rest a.rest (and_left r ((l && s) && (o && w)) h1);
-            same_days = same (length a.sums) (length b.sums) (and_left l s h3);
-            sums_no_more = λ k m. sums_mean (length b.sums) (turned new a.sums) (turned new b.sums) (and_right l s h3) k (omega arith);
+            same_days = sym m ∙ (e ∙ n);
+            left = subst (λ k. LeavesNoLess limit k xs ys) (e ∙ n) ((leaves_decides limit (length xs) xs ys).0 (and_right l s h3));
             since_no_more = upto a.since b.since (and_left o w h4);
             without_no_more = upto a.without b.without (and_right o w h4);
           }),
       (λ h.
+          let e : length xs ≡ length ys = same_count new a.sums b.sums h.same_days in
           and_both c (r && ((l && s) && (o && w))) (is_same a.cycle b.cycle h.same_cycle)
           (and_both r ((l && s) && (o && w)) (is_upto b.rest a.rest h.rested)
-          (and_both (l && s) (o && w) (and_both l s (is_same (length a.sums) (length b.sums) h.same_days) (sums_from (length b.sums) (turned new a.sums) (turned new b.sums) (λ k m. h.sums_no_more k (omega arith))))
+          (and_both (l && s) (o && w)
+          (and_both l s (is_same (length xs) (length ys) e) ((leaves_decides limit (length xs) xs ys).1 (subst (λ k. LeavesNoLess limit k xs ys) (sym (e ∙ n)) h.left)))
           (and_both o w (is_upto a.since b.since h.since_no_more) (is_upto a.without b.without h.without_no_more))))),
     )
 

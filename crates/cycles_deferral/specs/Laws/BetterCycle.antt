@@ -12,7 +12,6 @@ use Rattle.duty_core.specs.PlainlyBetter.{AreDaysBetter, IsLastDayOff}
 use Rattle.day_sums.specs.Sums.{first_days, rolled, cleared}
 use Rattle.day_sums.specs.Laws.SumLaws.{first_none, first_rolled, first_cleared, rolled_cleared}
 use Rattle.day_sums.specs.Counted.{IsDutyOfDays, AreDaySums, turned}
-use Rattle.day_sums.specs.Laws.Counted.{length-turned}
 use Rattle.cycles_deferral.specs.declared.cycle.CycleCount.{CycleCount}
 use Rattle.cycles_deferral.specs.Paths.{AreDays, begins}
 use Rattle.cycles_deferral.specs.Laws.Tracks.{days_up_to}
@@ -150,12 +149,11 @@ cycle_better day days p q a b h g e better =
     let sa = h.since_is in
     let sb = g.since_is in
     let o = better.day_off h.day_off g.day_off h.is_day_off g.is_day_off in
-    let lb = length-turned new b.sums in
     record {
       same_cycle = e;
       rested = omega arith;
       same_days = omega arith;
-      sums_no_more = λ n l. sums_better day days p q a b h g e better n (omega arith);
+      left = λ n l. let m = sums_better day days p q a b h g e better n l in omega arith;
       since_no_more = omega arith;
       without_no_more = elim h.no_without [
         | inr none ↦ omega arith

@@ -1,5 +1,5 @@
 -- When the counts of a cycle of one history may stand for those of another of the same length and first minute, whatever comes next.
-use Rattle.std.proofs.Common.{◌≡◌, ℕ, ◌+◌, ◌<◌, ◌≤◌, ◌⊎◌, min, Bool, true, false, cond, ◌&&◌, List, length, refl, sym, ◌∙◌, ap, subst, arith, inl, inr, zero, suc}
+use Rattle.std.proofs.Common.{◌≡◌, ℕ, ◌+◌, ◌-◌, ◌<◌, ◌≤◌, ◌⊎◌, min, Bool, true, false, cond, ◌&&◌, List, [], ◌∷◌, length, refl, sym, ◌∙◌, ap, subst, arith, inl, inr}
 use Rattle.std.specs.Prelude.{nat_eq, nat_lt, nat_le, Option, None, Some, sum}
 use Rattle.std.proofs.lemmas.Bool.{cases_lt, cases_Bool, cond-true, cond-false}
 use Rattle.std.proofs.lemmas.Bool.Decides.{nat_tests}
@@ -9,14 +9,15 @@ use Rattle.duty_core.specs.declared.activity.Activity.TheVariants.{Drive, Serve,
 use Rattle.duty_core.specs.declared.limits.TheConstants.{CA_CYCLE_2, CA_DAY_OFF, CA_WITHOUT_DAY_OFF_LIMIT}
 use Rattle.duty_core.specs.Activity.{rests}
 use Rattle.duty_core.specs.CaCycle.{cycle_reset, cycle_limit}
-use Rattle.day_sums.specs.Sums.{first_days, added, rolled, cleared}
-use Rattle.day_sums.specs.Laws.SumLaws.{first_none, first_added, first_rolled, first_cleared, length-added, length-rolled, length-cleared}
+use Rattle.day_sums.specs.Sums.{first_days, added, cleared, LeavesNoLess}
+use Rattle.day_sums.specs.Laws.SumLaws.{first_added, first_cleared, length-added, length-cleared}
+use Rattle.day_sums.specs.Laws.LeftLaws.{leaves_same, leaves_turned, leaves_added, leaves_more}
 use Rattle.day_sums.specs.Counted.{turned, after_rest}
 use Rattle.day_sums.specs.Laws.Counted.{length-turned}
 use Rattle.cycles_deferral.specs.declared.cycle.TheConstants.{SINCE_LIMIT, WITHOUT_LIMIT}
 use Rattle.cycles_deferral.specs.declared.cycle.CycleCount.{CycleCount}
 use Rattle.cycles_deferral.specs.CycleMachine.{IsCycleCount, cycle_rested, cycle_worked, keeps_day_off, keeps_cycle, cycle_ok, cycle_after}
-use Rattle.cycles_deferral.specs.CycleCovers.{SumsNoMore, CycleCovers, CycleCoversOn}
+use Rattle.cycles_deferral.specs.CycleCovers.{CycleCovers, CycleCoversOn}
 
 -- # An order
 
@@ -25,7 +26,7 @@ cycle_covers_self new a = record {
   same_cycle = refl;
   rested = omega arith;
   same_days = refl;
-  sums_no_more = λ n l. omega arith;
+  left = leaves_same (cycle_limit a.cycle) (length a.sums) (turned new a.sums);
   since_no_more = omega arith;
   without_no_more = omega arith;
 }
@@ -39,47 +40,17 @@ cycle_covers_over new a b c h g =
     let v = h.without_no_more in
     let w = g.without_no_more in
     let e = g.same_days in
-    let lb = length-turned new b.sums in
-    let lc = length-turned new c.sums in
+    let m : cycle_limit b.cycle ≡ cycle_limit c.cycle = ap cycle_limit g.same_cycle in
     record {
       same_cycle = h.same_cycle ∙ g.same_cycle;
       rested = omega arith;
       same_days = h.same_days ∙ g.same_days;
-      sums_no_more = λ n l. let p = h.sums_no_more n (omega arith) in let q = g.sums_no_more n l in omega arith;
+      left = λ n l. let p = h.left n (omega arith) in let q = g.left n l in omega arith;
       since_no_more = omega arith;
       without_no_more = omega arith;
     }
 
 -- # Sums
-
-sums_rolled : (xs ys : List ℕ) → length xs ≡ length ys → SumsNoMore xs ys → SumsNoMore (rolled xs) (rolled ys)
-sums_rolled xs ys e h zero l = let a = first_none (rolled xs) in omega arith
-sums_rolled xs ys e h (suc n) l =
-    let r = length-rolled ys in
-    let a = first_rolled n xs (omega arith) in
-    let b = first_rolled n ys (omega arith) in
-    let c = h n (omega arith) in
-    omega arith
-
-sums_turned : (new : Bool) (xs ys : List ℕ) → length xs ≡ length ys → SumsNoMore xs ys → SumsNoMore (turned new xs) (turned new ys)
-sums_turned true xs ys e h = sums_rolled xs ys e h
-sums_turned false xs ys e h = h
-
-sums_added : (xs ys : List ℕ) → length xs ≡ length ys → SumsNoMore xs ys → SumsNoMore (added 1 xs) (added 1 ys)
-sums_added xs ys e h zero l = let a = first_none (added 1 xs) in omega arith
-sums_added xs ys e h (suc n) l =
-    let r = length-added 1 ys in
-    let a = first_added (suc n) 1 xs (omega arith) (omega arith) in
-    let b = first_added (suc n) 1 ys (omega arith) (omega arith) in
-    let c = h (suc n) (omega arith) in
-    omega arith
-
-sums_more : (xs : List ℕ) → SumsNoMore xs (added 1 xs)
-sums_more xs zero l = let a = first_none xs in omega arith
-sums_more xs (suc n) l =
-    let r = length-added 1 xs in
-    let a = first_added (suc n) 1 xs (omega arith) (omega arith) in
-    omega arith
 
 after_short : (restart rest : ℕ) (xs : List ℕ) → rest < restart → after_rest restart rest xs ≡ xs
 after_short restart rest xs l = cond-true (nat_lt rest restart) xs (cleared xs) (grind (arith, nat_tests))
@@ -100,12 +71,12 @@ after_less restart rest xs n = elim (cases_lt rest restart) [
   | inr l ↦ (let e : first_days n (after_rest restart rest xs) ≡ 0 = ap (first_days n) (after_long restart rest xs l) ∙ first_cleared n xs in omega arith)
 ]
 
-sums_after : (restart x y : ℕ) (xs ys : List ℕ) → y ≤ x → length xs ≡ length ys → SumsNoMore xs ys → SumsNoMore (after_rest restart x xs) (after_rest restart y ys)
-sums_after restart x y xs ys l e h n m = elim (cases_lt x restart) [
+left_after : (limit days restart x y : ℕ) (xs ys : List ℕ) → y ≤ x → LeavesNoLess limit days xs ys → LeavesNoLess limit days (after_rest restart x xs) (after_rest restart y ys)
+left_after limit days restart x y xs ys l h n m = elim (cases_lt x restart) [
   | inl k ↦ (
       let a : first_days n (after_rest restart x xs) ≡ first_days n xs = ap (first_days n) (after_short restart x xs k) in
       let b : first_days n (after_rest restart y ys) ≡ first_days n ys = ap (first_days n) (after_short restart y ys (omega arith)) in
-      let c = h n (let z = length_after restart y ys in omega arith) in
+      let c = h n m in
       omega arith)
   | inr k ↦ (let a : first_days n (after_rest restart x xs) ≡ 0 = ap (first_days n) (after_long restart x xs k) ∙ first_cleared n xs in omega arith)
 ]
@@ -141,13 +112,17 @@ cycle_cover_rested new next a b h =
     let long : length xs ≡ length ys = length-turned new a.sums ∙ (h.same_days ∙ sym (length-turned new b.sums)) in
     let same : length (after_rest (cycle_reset a.cycle) (a.rest + 1) xs) ≡ length (after_rest (cycle_reset b.cycle) (b.rest + 1) ys) =
     length_after (cycle_reset a.cycle) (a.rest + 1) xs ∙ (long ∙ sym (length_after (cycle_reset b.cycle) (b.rest + 1) ys)) in
-    let after : SumsNoMore (after_rest (cycle_reset a.cycle) (a.rest + 1) xs) (after_rest (cycle_reset b.cycle) (b.rest + 1) ys) =
-    subst (λ z. SumsNoMore (after_rest (cycle_reset a.cycle) (a.rest + 1) xs) (after_rest z (b.rest + 1) ys)) reset (sums_after (cycle_reset a.cycle) (a.rest + 1) (b.rest + 1) xs ys (omega arith) long h.sums_no_more) in
+    let limit : ℕ = cycle_limit b.cycle in
+    let days : ℕ = length b.sums in
+    let after : LeavesNoLess limit days (after_rest (cycle_reset a.cycle) (a.rest + 1) xs) (after_rest (cycle_reset b.cycle) (b.rest + 1) ys) =
+    subst (λ z. LeavesNoLess limit days (after_rest (cycle_reset a.cycle) (a.rest + 1) xs) (after_rest z (b.rest + 1) ys)) reset (left_after limit days (cycle_reset a.cycle) (a.rest + 1) (b.rest + 1) xs ys (omega arith) h.left) in
+    let many : length (after_rest (cycle_reset b.cycle) (b.rest + 1) ys) ≡ days = length_after (cycle_reset b.cycle) (b.rest + 1) ys ∙ length-turned new b.sums in
     record {
       same_cycle = e;
       rested = omega arith;
       same_days = same;
-      sums_no_more = sums_turned next (after_rest (cycle_reset a.cycle) (a.rest + 1) xs) (after_rest (cycle_reset b.cycle) (b.rest + 1) ys) same after;
+      left = subst (λ n. LeavesNoLess limit n (turned next (after_rest (cycle_reset a.cycle) (a.rest + 1) xs)) (turned next (after_rest (cycle_reset b.cycle) (b.rest + 1) ys))) (sym many)
+          (leaves_turned limit days next (after_rest (cycle_reset a.cycle) (a.rest + 1) xs) (after_rest (cycle_reset b.cycle) (b.rest + 1) ys) (omega arith) (omega arith) after);
       since_no_more = rested_no_more a.rest b.rest (min (a.since + 1) SINCE_LIMIT) (min (b.since + 1) SINCE_LIMIT) r (omega arith);
       without_no_more = rested_no_more a.rest b.rest a.without b.without r h.without_no_more;
     }
@@ -166,40 +141,63 @@ cycle_cover_worked new next a b h =
     let ys : List ℕ = turned new b.sums in
     let long : length xs ≡ length ys = length-turned new a.sums ∙ (h.same_days ∙ sym (length-turned new b.sums)) in
     let same : length (added 1 xs) ≡ length (added 1 ys) = length-added 1 xs ∙ (long ∙ sym (length-added 1 ys)) in
+    let limit : ℕ = cycle_limit b.cycle in
+    let days : ℕ = length b.sums in
+    let whole : length ys ≡ days = length-turned new b.sums in
+    let many : length (added 1 ys) ≡ days = length-added 1 ys ∙ whole in
     record {
       same_cycle = e;
       rested = omega arith;
       same_days = same;
-      sums_no_more = sums_turned next (added 1 xs) (added 1 ys) same (sums_added xs ys long h.sums_no_more);
+      left = subst (λ n. LeavesNoLess limit n (turned next (added 1 xs)) (turned next (added 1 ys))) (sym many)
+          (leaves_turned limit days next (added 1 xs) (added 1 ys) (omega arith) (omega arith) (leaves_added limit days 1 xs ys (omega arith) (omega arith) h.left));
       since_no_more = omega arith;
       without_no_more = subst (λ z. cond (nat_eq a.cycle CA_CYCLE_2) (min (a.without + 1) WITHOUT_LIMIT) 0 ≤ cond (nat_eq z CA_CYCLE_2) (min (b.without + 1) WITHOUT_LIMIT) 0) e (worked_without a.cycle a.without b.without h.without_no_more);
     }
 
-sum_all : (sums : List ℕ) → first_days (length sums) sums ≡ sum sums
-sum_all sums = ap sum (take_all (length sums) sums (omega arith))
+-- all the days with a minute more
+sum_of_added : (sums : List ℕ) → 0 < length sums → sum (added 1 sums) ≡ first_days (length sums) sums + 1
+sum_of_added sums l =
+    let all : first_days (length sums) (added 1 sums) ≡ sum (added 1 sums) = ap sum (take_all (length sums) (added 1 sums) (omega (arith, length-added 1 sums))) in
+    let more = first_added (length sums) 1 sums (omega arith) l in
+    omega arith
+
+sum_none : (sums : List ℕ) → length sums ≡ 0 → sum (added 1 sums) ≡ 0
+sum_none [] e = refl
+sum_none (x ∷ xs) e = absurd (omega arith)
+
+-- where a minute of duty more keeps the limit, it does so for sums that leave no less
+within_added : (limit : ℕ) (xs ys : List ℕ) → length xs ≡ length ys → LeavesNoLess limit (length ys) xs ys → sum (added 1 ys) ≤ limit → sum (added 1 xs) ≤ limit
+within_added limit xs ys e h l = elim (cases_lt 0 (length ys)) [
+  | inl some ↦ (
+      let a = sum_of_added xs (omega arith) in
+      let b = sum_of_added ys some in
+      let c : limit - first_days (length ys) ys ≤ limit - first_days (length ys) xs = h (length ys) (omega arith) in
+      let d : first_days (length xs) xs ≡ first_days (length ys) xs = ap (λ n. first_days n xs) e in
+      omega arith)
+  | inr none ↦ (let a = sum_none xs (omega arith) in omega arith)
+]
 
 test_of : ℕ → ℕ → ℕ → ℕ → Bool
 test_of since total limit without = nat_lt since SINCE_LIMIT && (nat_le total limit && nat_le without CA_WITHOUT_DAY_OFF_LIMIT)
 
-test_less : (s t l w u v m : ℕ) → u ≤ s → v ≤ t → m ≤ w → test_of s t l w ≡ true → test_of u v l m ≡ true
+test_less : (s t l w u v m : ℕ) → u ≤ s → (t ≤ l → v ≤ l) → m ≤ w → test_of s t l w ≡ true → test_of u v l m ≡ true
 unfolding test_of
-test_less s t l w u v m a b c e = grind (arith, nat_tests)
+test_less s t l w u v m a b c e = let k : t ≤ l = grind (arith, nat_tests) in let n = b k in grind (arith, nat_tests)
 
 drive_covered : (new : Bool) (a b : CycleCount) → CycleCovers new a b → (keeps_day_off b && keeps_cycle (cycle_worked b new)) ≡ true → (keeps_day_off a && keeps_cycle (cycle_worked a new)) ≡ true
 unfolding test_of
 drive_covered new a b h e =
     let k = cycle_cover_worked new false a b h in
-    let x : List ℕ = (cycle_worked a new).sums in
-    let y : List ℕ = (cycle_worked b new).sums in
-    let same : length x ≡ length y = k.same_days in
-    let p = sum_all x in
-    let q = sum_all y in
-    let r : first_days (length x) x ≡ first_days (length y) x = ap (λ n. first_days n x) same in
-    let t = k.sums_no_more (length y) (omega arith) in
-    let w = k.without_no_more in
-    let l : cycle_limit b.cycle ≡ cycle_limit a.cycle = ap cycle_limit (sym h.same_cycle) in
-    subst (λ z. test_of a.since (sum x) z (cycle_worked a new).without ≡ true) l
-    (test_less b.since (sum y) (cycle_limit b.cycle) (cycle_worked b new).without a.since (sum x) (cycle_worked a new).without h.since_no_more (omega arith) w e)
+    let xs : List ℕ = turned new a.sums in
+    let ys : List ℕ = turned new b.sums in
+    let limit : ℕ = cycle_limit b.cycle in
+    let whole : length ys ≡ length b.sums = length-turned new b.sums in
+    let long : length xs ≡ length ys = length-turned new a.sums ∙ (h.same_days ∙ sym whole) in
+    let left : LeavesNoLess limit (length ys) xs ys = subst (λ n. LeavesNoLess limit n xs ys) (sym whole) h.left in
+    let l : limit ≡ cycle_limit a.cycle = ap cycle_limit (sym h.same_cycle) in
+    subst (λ z. test_of a.since (sum (added 1 xs)) z (cycle_worked a new).without ≡ true) l
+    (test_less b.since (sum (added 1 ys)) limit (cycle_worked b new).without a.since (sum (added 1 xs)) (cycle_worked a new).without h.since_no_more (within_added limit xs ys long left) k.without_no_more e)
 
 ok_covered : (x : Activity) (new : Bool) (a b : CycleCount) → CycleCovers new a b → cycle_ok b x new ≡ true → cycle_ok a x new ≡ true
 ok_covered Drive new a b h e = drive_covered new a b h e
@@ -257,13 +255,19 @@ cycle_rested_covers s new next k =
     let xs : List ℕ = turned new s.sums in
     let a : List ℕ = after_rest (cycle_reset s.cycle) (s.rest + 1) xs in
     let same : length a ≡ length (added 1 xs) = length_after (cycle_reset s.cycle) (s.rest + 1) xs ∙ sym (length-added 1 xs) in
+    let limit : ℕ = cycle_limit s.cycle in
+    let days : ℕ = length s.sums in
+    let whole : length xs ≡ days = length-turned new s.sums in
+    let many : length (added 1 xs) ≡ days = length-added 1 xs ∙ whole in
+    let more = leaves_more limit days 1 xs (omega arith) in
     let p = rested_least s.rest s.without in
     let q = less_without s k.no_without k.without_most in
     record {
       same_cycle = refl;
       rested = omega arith;
       same_days = same;
-      sums_no_more = sums_turned next a (added 1 xs) same (λ n l. let d = after_less (cycle_reset s.cycle) (s.rest + 1) xs n in let e = sums_more xs n l in omega arith);
+      left = subst (λ n. LeavesNoLess limit n (turned next a) (turned next (added 1 xs))) (sym many)
+          (leaves_turned limit days next a (added 1 xs) (omega arith) (omega arith) (λ n l. let d = after_less (cycle_reset s.cycle) (s.rest + 1) xs n in let e = more n l in omega arith));
       since_no_more = rested_least s.rest (min (s.since + 1) SINCE_LIMIT);
       without_no_more = omega arith;
     }

@@ -1,10 +1,9 @@
 -- Sums that leave no less of a limit: the test, and what keeps it so.
 use Rattle.std.proofs.Common.{◌≡◌, ◌↔◌, ℕ, ◌-◌, ◌<◌, ◌≤◌, Bool, true, false, List, length, refl, ◌∙◌, ap, subst, arith, inl, inr, zero, suc}
 use Rattle.std.specs.Prelude.{nat_le, ◌&&◌}
-use Rattle.std.proofs.lemmas.Bool.{cases_lt}
+use Rattle.std.proofs.lemmas.Bool.{cases_lt, cases_Bool}
 use Rattle.std.proofs.lemmas.Bool.Decides.{nat_tests}
-use Rattle.day_sums.specs.Sums.{first_days, added, rolled, cleared, leaves_no_less}
-use Rattle.day_sums.specs.Laws.Sums.{LeavesNoLess}
+use Rattle.day_sums.specs.Sums.{first_days, added, rolled, cleared, LeavesNoLess, leaves_no_less}
 use Rattle.day_sums.specs.Laws.SumLaws.{first_none, first_added, first_rolled, first_cleared, rolled_cleared}
 use Rattle.day_sums.specs.Counted.{turned}
 
@@ -30,8 +29,12 @@ is_upto a b h = grind (arith, nat_tests)
 none_left : (limit : ℕ) (xs ys : List ℕ) → limit - first_days 0 ys ≤ limit - first_days 0 xs
 none_left limit xs ys = let a = first_none xs in let b = first_none ys in omega arith
 
+-- no days hold no duty
+pub leaves_none : (limit : ℕ) (xs ys : List ℕ) → LeavesNoLess limit 0 xs ys
+leaves_none limit xs ys n l = subst (λ k. limit - first_days k ys ≤ limit - first_days k xs) (let e : 0 ≡ n = omega arith in e) (none_left limit xs ys)
+
 test_means : (limit days : ℕ) (xs ys : List ℕ) → leaves_no_less limit days xs ys ≡ true → LeavesNoLess limit days xs ys
-test_means limit zero xs ys h n l = subst (λ k. limit - first_days k ys ≤ limit - first_days k xs) (let e : 0 ≡ n = omega arith in e) (none_left limit xs ys)
+test_means limit zero xs ys h n l = leaves_none limit xs ys n l
 test_means limit (suc days) xs ys h n l =
     let one : Bool = nat_le (limit - first_days (suc days) ys) (limit - first_days (suc days) xs) in
     elim (cases_lt n (suc days)) [
@@ -50,15 +53,19 @@ means_test limit (suc days) xs ys h =
 pub leaves_decides : (limit days : ℕ) (xs ys : List ℕ) → (leaves_no_less limit days xs ys ≡ true) ↔ LeavesNoLess limit days xs ys
 leaves_decides limit days xs ys = (test_means limit days xs ys, means_test limit days xs ys)
 
--- one day less to compare
-pub one_passes : (limit n : ℕ) (xs ys : List ℕ) → limit - first_days (suc n) ys ≤ limit - first_days (suc n) xs → leaves_no_less limit (suc n) xs ys ≡ leaves_no_less limit n xs ys
-one_passes limit n xs ys l = let e = is_upto (limit - first_days (suc n) ys) (limit - first_days (suc n) xs) l in rw e refl
+-- a number of days with less left fails it
+pub leaves_fails : (limit days n : ℕ) (xs ys : List ℕ) → n ≤ days → limit - first_days n xs < limit - first_days n ys → leaves_no_less limit days xs ys ≡ false
+leaves_fails limit days n xs ys l u = elim (cases_Bool (leaves_no_less limit days xs ys)) [
+  | inl t ↦ absurd (let z = test_means limit days xs ys t n l in omega arith)
+  | inr f ↦ f
+]
 
-above : (a b : ℕ) → b < a → nat_le a b ≡ false
-above a b h = grind (arith, nat_tests)
-
-pub one_fails : (limit n : ℕ) (xs ys : List ℕ) → limit - first_days (suc n) xs < limit - first_days (suc n) ys → leaves_no_less limit (suc n) xs ys ≡ false
-one_fails limit n xs ys l = let e = above (limit - first_days (suc n) ys) (limit - first_days (suc n) xs) l in rw e refl
+-- one day more to compare
+pub leaves_one_more : (limit n m : ℕ) (xs ys : List ℕ) → suc n ≡ m → LeavesNoLess limit n xs ys → limit - first_days (suc n) ys ≤ limit - first_days (suc n) xs → LeavesNoLess limit m xs ys
+leaves_one_more limit n m xs ys e h u k l = elim (cases_lt n k) [
+  | inl v ↦ subst (λ j. limit - first_days j ys ≤ limit - first_days j xs) (let z : suc n ≡ k = omega arith in z) u
+  | inr v ↦ h k v
+]
 
 -- # What keeps it so
 
@@ -80,14 +87,14 @@ pub leaves_turned : (limit days : ℕ) (turn : Bool) (xs ys : List ℕ) → days
 leaves_turned limit days true xs ys a b h = leaves_rolled limit days xs ys a b h
 leaves_turned limit days false xs ys a b h = h
 
-pub leaves_added : (limit days k : ℕ) (xs ys : List ℕ) → 0 < length xs → 0 < length ys → LeavesNoLess limit days xs ys → LeavesNoLess limit days (added k xs) (added k ys)
+pub leaves_added : (limit days k : ℕ) (xs ys : List ℕ) → days ≤ length xs → days ≤ length ys → LeavesNoLess limit days xs ys → LeavesNoLess limit days (added k xs) (added k ys)
 leaves_added limit days k xs ys a b h zero l = none_left limit (added k xs) (added k ys)
-leaves_added limit days k xs ys a b h (suc n) l = let x = first_added (suc n) k xs (omega arith) a in let y = first_added (suc n) k ys (omega arith) b in let z = h (suc n) l in omega arith
+leaves_added limit days k xs ys a b h (suc n) l = let x = first_added (suc n) k xs (omega arith) (omega arith) in let y = first_added (suc n) k ys (omega arith) (omega arith) in let z = h (suc n) l in omega arith
 
 -- more duty leaves less
-pub leaves_more : (limit days k : ℕ) (xs : List ℕ) → 0 < length xs → LeavesNoLess limit days xs (added k xs)
+pub leaves_more : (limit days k : ℕ) (xs : List ℕ) → days ≤ length xs → LeavesNoLess limit days xs (added k xs)
 leaves_more limit days k xs a zero l = none_left limit xs (added k xs)
-leaves_more limit days k xs a (suc n) l = let x = first_added (suc n) k xs (omega arith) a in omega arith
+leaves_more limit days k xs a (suc n) l = let x = first_added (suc n) k xs (omega arith) (omega arith) in omega arith
 
 pub turned_none : (turn : Bool) (xs : List ℕ) → xs ≡ cleared xs → turned turn xs ≡ cleared (turned turn xs)
 turned_none true xs e = rolled_cleared xs e

@@ -19,7 +19,7 @@ use Rattle.duty_core.specs.UsRules.{IsLastBreak, us_week_limit}
 use Rattle.duty_core.specs.PlainlyBetter.{AreDaysBetter, IsUsBetter, IsPlainlyBetter}
 use Rattle.rule_core.specs.Laws.Guard.{IsGuard, led}
 use Rattle.rule_core.specs.Laws.ReachLaws.{reached_state}
-use Rattle.day_sums.specs.Laws.Sums.{LeavesNoLess}
+use Rattle.day_sums.specs.Sums.{LeavesNoLess}
 use Rattle.day_sums.specs.Laws.SumLaws.{first_none}
 use Rattle.day_sums.specs.Laws.LeftLaws.{leaves_cleared, turned_none}
 use Rattle.day_sums.specs.Counted.{turned}

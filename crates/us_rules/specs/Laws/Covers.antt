@@ -8,8 +8,7 @@ use Rattle.duty_core.specs.declared.activity.Activity.{Activity}
 use Rattle.duty_core.specs.declared.activity.Activity.TheVariants.{Drive, Serve, Wait, Off, Berth}
 use Rattle.duty_core.specs.declared.limits.TheConstants.{US_BREAK, US_UNBROKEN_LIMIT, US_RESTART}
 use Rattle.duty_core.specs.UsRules.{us_week_limit}
-use Rattle.day_sums.specs.Sums.{first_days, added, cleared, leaves_no_less}
-use Rattle.day_sums.specs.Laws.Sums.{LeavesNoLess}
+use Rattle.day_sums.specs.Sums.{first_days, added, cleared, LeavesNoLess, leaves_no_less}
 use Rattle.day_sums.specs.Laws.SumLaws.{length-added, first_added, cleared_twice}
 use Rattle.day_sums.specs.Laws.LeftLaws.{leaves_decides, leaves_same, leaves_over, leaves_cleared, leaves_turned, leaves_added, leaves_more, turned_none}
 use Rattle.day_sums.specs.Counted.{turned, after_rest}
