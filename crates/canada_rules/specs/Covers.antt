@@ -3,7 +3,7 @@ use Rattle.std.proofs.Common.{ℕ, ◌+◌, Bool, true, false, ◌&&◌, ◌||�
 use Rattle.std.specs.Prelude.{nat_eq, nat_le, not}
 use Rattle.duty_core.specs.declared.params.RestWay.{RestWay}
 use Rattle.duty_core.specs.declared.params.RestWay.TheVariants.{Split, Defer}
-use Rattle.duty_core.specs.declared.limits.TheConstants.{CA_LOST_LIMIT}
+use Rattle.duty_core.specs.declared.limits.TheConstants.{CA_LOST_LIMIT, CA_DAY_DRIVING_LIMIT, CA_DAY_DUTY_LIMIT}
 use Rattle.duty_core.specs.CaCycle.{cycle_limit}
 use Rattle.day_sums.specs.Sums.{leaves_no_less}
 use Rattle.day_sums.specs.Counted.{turned}
@@ -20,9 +20,13 @@ use Rattle.canada_rules.specs.Machine.{begins_day, day_begun}
 
 -- # Tests of parts
 
--- no more driving and duty of the day
+-- driving or duty stands at its limit: nothing more may be driven in the day
+abbrev pub is_day_spent : DayDuty → Bool
+is_day_spent d = nat_le CA_DAY_DRIVING_LIMIT d.driving || nat_le CA_DAY_DUTY_LIMIT d.duty
+
+-- no more driving and duty of the day, or the other day is spent
 abbrev pub day_covers : DayDuty → DayDuty → Bool
-day_covers a b = nat_le a.driving b.driving && nat_le a.duty b.duty
+day_covers a b = is_day_spent b || (nat_le a.driving b.driving && nat_le a.duty b.duty)
 
 abbrev pub same_way : RestWay → RestWay → Bool
 same_way Split Split = true

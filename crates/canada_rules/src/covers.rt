@@ -3,11 +3,12 @@ ghost use Rattle.std.specs.Prelude.{◌≡◌};
 ghost use Rattle.duty_core.specs.CaCycle.{cycle_limit};
 ghost use Rattle.day_sums.specs.Counted.{turned};
 ghost use Rattle.cycles_deferral.specs.DayMachine.{IsCanadaDays, days_begun};
-ghost use Rattle.canada_rules.specs.Covers.{day_covers, days_cover, sums_cover, day_off_covers, cycle_covers, calendar_covers};
+ghost use Rattle.canada_rules.specs.Covers.{is_day_spent, day_covers, days_cover, sums_cover, day_off_covers, cycle_covers, calendar_covers};
 
 use crate::state::{Calendar, DayDuty};
 use cycles_deferral::{CanadaDays, CycleCount};
 use day_sums::DaySums;
+use duty_core::{CA_DAY_DRIVING_LIMIT, CA_DAY_DUTY_LIMIT};
 
 impl Calendar {
     /// Whether what is counted by days here may stand for `other`, whatever comes next. `new_day`
@@ -24,11 +25,19 @@ impl Calendar {
 }
 
 impl DayDuty {
-    /// Whether driving and duty of the day are no more.
+    /// Whether driving and duty of the day are no more, or nothing more may be driven in the other
+    /// day.
     fn covers(self, other: DayDuty) -> bool
         ensures { result ≡ day_covers self other }
     {
-        self.driving <= other.driving && self.duty <= other.duty
+        other.is_spent() || (self.driving <= other.driving && self.duty <= other.duty)
+    }
+
+    /// Whether driving or duty stands at its limit.
+    fn is_spent(self) -> bool
+        ensures { result ≡ is_day_spent self }
+    {
+        CA_DAY_DRIVING_LIMIT <= self.driving || CA_DAY_DUTY_LIMIT <= self.duty
     }
 }
 

@@ -2,7 +2,7 @@
 use Rattle.std.specs.Prelude.{◌-◌, ◌≡◌, ℕ, ◌+◌, ◌<◌, ◌≤◌, ◌⊎◌, min, Bool, true, false, not, cond, Option, None, Some, nat_eq, nat_le, ◌&&◌, ◌||◌}
 use Rattle.duty_core.specs.declared.activity.Activity.{Activity}
 use Rattle.duty_core.specs.declared.activity.Activity.TheVariants.{Drive, Serve, Wait, Off, Berth}
-use Rattle.duty_core.specs.declared.limits.TheConstants.{US_PAIR_BERTH}
+use Rattle.duty_core.specs.declared.limits.TheConstants.{COUNT_LIMIT, US_PAIR_BERTH}
 use Rattle.sleeper_split.specs.declared.rule.BerthRule.{BerthRule}
 use Rattle.sleeper_split.specs.declared.rule.BerthRule.TheVariants.{SevenInOne, AllOfNext}
 use Rattle.sleeper_split.specs.declared.rule.SplitRule.{SplitRule}
@@ -10,7 +10,7 @@ use Rattle.sleeper_split.specs.declared.count.Used.{Used}
 use Rattle.sleeper_split.specs.declared.count.OpenRun.{OpenRun}
 use Rattle.sleeper_split.specs.declared.count.WaitingRest.{WaitingRest}
 use Rattle.sleeper_split.specs.declared.count.SplitCount.{SplitCount}
-use Rattle.sleeper_split.specs.Machine.{IsSplitCount, IsWithin, has_pair_berth, has_split_berth, may_pair, without_run}
+use Rattle.sleeper_split.specs.Machine.{IsSplitCount, IsWithin, after_duty, has_pair_berth, has_split_berth, may_pair, without_run}
 use Rattle.sleeper_split.specs.Exact.{IsSplitRule}
 
 -- # What is asked of a rule and of a count
@@ -20,6 +20,11 @@ abbrev pub IsBerthWithin : BerthRule → ℕ → Type 0
 IsBerthWithin SevenInOne full = US_PAIR_BERTH ≤ full
 IsBerthWithin AllOfNext full = Unit {0}
 
+-- the limits, where a rule has them, are counts
+abbrev pub AreLimits : Option Used → Type 0
+AreLimits None = Unit {0}
+AreLimits (Some l) = (l.driving ≤ COUNT_LIMIT) × (l.duty ≤ COUNT_LIMIT) × (l.elapsed ≤ COUNT_LIMIT)
+
 -- A full rest all in the berth makes a pair with each split rest, and no pair is shorter than a full rest.
 pub record IsPairRule (rule : SplitRule) : Type 0 where
   pub split : IsSplitRule rule
@@ -28,6 +33,7 @@ pub record IsPairRule (rule : SplitRule) : Type 0 where
   pub pairs : rule.pair ≤ rule.full + rule.least
   pub owed : rule.full ≤ rule.pair
   pub berth : IsBerthWithin rule.berth rule.full
+  pub limits : AreLimits rule.limits
 
 -- a split rest that waits is one of the rule, where rests may be split
 abbrev pub WaitsWell : SplitRule → Bool → Option WaitingRest → Type 0
@@ -51,9 +57,20 @@ allowed berth Berth = berth
 abbrev pub own_rest : Bool → Activity
 own_rest berth = cond berth Berth Off
 
--- a test of a count that is passed by each count with no more used since the base
-pub record IsMonotone (ok : SplitCount → Bool) : Type 0 where
+-- one of the counts stands at its limit, where a rule has limits: nothing may be driven as long as they count
+abbrev pub IsSpent : Option Used → Used → Type 0
+IsSpent None u = ⊥
+IsSpent (Some l) u = (l.driving ≤ u.driving) ⊎ (l.duty ≤ u.duty) ⊎ (l.elapsed ≤ u.elapsed)
+
+-- and so it is whatever rest is left out of them
+abbrev pub IsWorn : Option Used → Used → Type 0
+IsWorn None u = ⊥
+IsWorn (Some l) u = (l.driving ≤ u.driving) ⊎ (l.duty ≤ u.duty)
+
+-- A test of a count that is passed by each count with no more used since the base, and by none that has driven where the base was spent.
+pub record IsMonotone (rule : SplitRule) (ok : SplitCount → Bool) : Type 0 where
   pub less : (s t : SplitCount) → IsWithin s.base t.base → ok t ≡ true → ok s ≡ true
+  pub spent : (s : SplitCount) → IsSpent rule.limits s.base → ok (after_duty true s) ≡ true → ⊥
 
 -- # The relation
 
@@ -85,12 +102,19 @@ abbrev pub IsReady : BerthRule → Option WaitingRest → OpenRun → Type 0
 IsReady k None r = Unit {0}
 IsReady k (Some w) r = (r.stretch ≡ r.long) ⊎ (has_pair_berth k w r ≡ true)
 
--- The split rests that wait, the run r in progress after the first one, and what is used: of the first since its base, and of the second since the rest that waits.
-abbrev pub IsWaitNoWorse : SplitRule → OpenRun → Option WaitingRest → Option WaitingRest → Used → Used → Type 0
-IsWaitNoWorse rule r None None base last = Unit {0}
-IsWaitNoWorse rule r None (Some v) base last = IsWithin base last
-IsWaitNoWorse rule r (Some w) None base last = (enough rule ≤ w.long) × IsBerthEnough rule.berth w × IsReady rule.berth (Some w) r
-IsWaitNoWorse rule r (Some w) (Some v) base last = (serving rule v.long ≤ w.long) × IsBerthNoWorse rule.berth w v
+-- the split rests that wait, and the run r in progress after the first one
+abbrev pub IsWaitNoWorse : SplitRule → OpenRun → Option WaitingRest → Option WaitingRest → Type 0
+IsWaitNoWorse rule r None v = Unit {0}
+IsWaitNoWorse rule r (Some w) None = (enough rule ≤ w.long) × IsBerthEnough rule.berth w × IsReady rule.berth (Some w) r
+IsWaitNoWorse rule r (Some w) (Some v) = (serving rule v.long ≤ w.long) × IsBerthNoWorse rule.berth w v
+
+-- Since the base: no count of u is more than that of v, or v is spent and allows nothing more.
+abbrev pub IsNoMore : Option Used → Used → Used → Type 0
+IsNoMore limits u v = IsSpent limits v ⊎ IsWithin u v
+
+-- Since the last rest: the same, where these may become counts since the base. They do so without a rest, and only where rests may be split.
+abbrev pub IsLastNoMore : Option Used → Bool → Used → Used → Type 0
+IsLastNoMore limits may u v = (may ≡ false) ⊎ IsWorn limits v ⊎ IsWithin u v
 
 -- a is no worse than b, number by number
 pub record IsNoWorse (rule : SplitRule) (may : Bool) (a b : SplitCount) : Type 0 where
@@ -99,9 +123,9 @@ pub record IsNoWorse (rule : SplitRule) (may : Bool) (a b : SplitCount) : Type 0
   pub deep : IsDeep rule.berth a.run b.run ⊎ ((may ≡ false) × (a.waiting ≡ None))
   -- the runs are equal, or that of a may end as a full rest once it is one
   pub keeps : (a.run.long ≡ b.run.long) ⊎ IsReady rule.berth a.waiting a.run
-  pub less_base : IsWithin a.base b.base
-  pub less_last : IsWithin a.last b.last
-  pub waiting : IsWaitNoWorse rule a.run a.waiting b.waiting a.base b.last
+  pub less_base : IsNoMore rule.limits a.base b.base
+  pub less_last : IsLastNoMore rule.limits may a.last b.last
+  pub waiting : IsWaitNoWorse rule a.run a.waiting b.waiting
 
 -- a's run in progress is a full rest that may end as one
 pub record IsFresher (rule : SplitRule) (a : SplitCount) : Type 0 where
@@ -114,8 +138,8 @@ as_waiting r = record { long = r.long; berth = r.longest }
 
 -- The run r, as a split rest, is no worse than the one that waits in b and b's run in progress together. Where none waits in b, it makes a pair with each second rest.
 abbrev pub IsOwed : SplitRule → OpenRun → Used → Option WaitingRest → SplitCount → Type 0
-IsOwed rule r used None b = (enough rule + b.run.long ≤ r.long) × IsBerthEnough rule.berth (as_waiting r) × IsWithin used b.base
-IsOwed rule r used (Some v) b = (serving rule v.long + b.run.long ≤ r.long) × IsBerthNoWorse rule.berth (as_waiting r) v × IsWithin used b.base
+IsOwed rule r used None b = (enough rule + b.run.long ≤ r.long) × IsBerthEnough rule.berth (as_waiting r) × IsNoMore rule.limits used b.base
+IsOwed rule r used (Some v) b = (serving rule v.long + b.run.long ≤ r.long) × IsBerthNoWorse rule.berth (as_waiting r) v × IsNoMore rule.limits used b.base
 
 -- a's run in progress may still be declared as a split rest, as b's was
 pub record IsOwing (rule : SplitRule) (may : Bool) (a b : SplitCount) : Type 0 where
@@ -134,6 +158,20 @@ Covers rule may a b = IsFresher rule a ⊎ IsNoWorse rule may a b ⊎ IsOwing ru
 abbrev pub is_within : Used → Used → Bool
 is_within u v = nat_le u.driving v.driving && (nat_le u.duty v.duty && nat_le u.elapsed v.elapsed)
 
+abbrev pub is_spent : Option Used → Used → Bool
+is_spent None u = false
+is_spent (Some l) u = nat_le l.driving u.driving || (nat_le l.duty u.duty || nat_le l.elapsed u.elapsed)
+
+abbrev pub is_worn : Option Used → Used → Bool
+is_worn None u = false
+is_worn (Some l) u = nat_le l.driving u.driving || nat_le l.duty u.duty
+
+abbrev pub is_no_more : Option Used → Used → Used → Bool
+is_no_more limits u v = is_spent limits v || is_within u v
+
+abbrev pub is_last_no_more : Option Used → Bool → Used → Used → Bool
+is_last_no_more limits may u v = not may || (is_worn limits v || is_within u v)
+
 abbrev pub waits_none : Option WaitingRest → Bool
 waits_none None = true
 waits_none (Some w) = false
@@ -150,11 +188,10 @@ abbrev pub is_ready : BerthRule → Option WaitingRest → OpenRun → Bool
 is_ready k None r = true
 is_ready k (Some w) r = nat_eq r.stretch r.long || has_pair_berth k w r
 
-abbrev pub is_wait_no_worse : SplitRule → OpenRun → Option WaitingRest → Option WaitingRest → Used → Used → Bool
-is_wait_no_worse rule r None None base last = true
-is_wait_no_worse rule r None (Some v) base last = is_within base last
-is_wait_no_worse rule r (Some w) None base last = nat_le (enough rule) w.long && (is_berth_enough rule.berth w && is_ready rule.berth (Some w) r)
-is_wait_no_worse rule r (Some w) (Some v) base last = nat_le (serving rule v.long) w.long && is_berth_no_worse rule.berth w v
+abbrev pub is_wait_no_worse : SplitRule → OpenRun → Option WaitingRest → Option WaitingRest → Bool
+is_wait_no_worse rule r None v = true
+is_wait_no_worse rule r (Some w) None = nat_le (enough rule) w.long && (is_berth_enough rule.berth w && is_ready rule.berth (Some w) r)
+is_wait_no_worse rule r (Some w) (Some v) = nat_le (serving rule v.long) w.long && is_berth_no_worse rule.berth w v
 
 abbrev pub is_deep : BerthRule → OpenRun → OpenRun → Bool
 is_deep SevenInOne r q = nat_le (min q.stretch US_PAIR_BERTH) r.stretch && nat_le (min q.longest US_PAIR_BERTH) r.longest
@@ -165,14 +202,14 @@ is_no_worse rule may a b =
     nat_le b.run.long a.run.long
     && ((is_deep rule.berth a.run b.run || (not may && waits_none a.waiting))
     && ((nat_eq a.run.long b.run.long || is_ready rule.berth a.waiting a.run)
-    && (is_within a.base b.base && (is_within a.last b.last && is_wait_no_worse rule a.run a.waiting b.waiting a.base b.last))))
+    && (is_no_more rule.limits a.base b.base && (is_last_no_more rule.limits may a.last b.last && is_wait_no_worse rule a.run a.waiting b.waiting))))
 
 abbrev pub is_fresher : SplitRule → SplitCount → Bool
 is_fresher rule a = nat_le rule.full a.run.long && may_pair rule a.waiting a.run
 
 abbrev pub is_owed : SplitRule → OpenRun → Used → Option WaitingRest → SplitCount → Bool
-is_owed rule r used None b = nat_le (enough rule + b.run.long) r.long && (is_berth_enough rule.berth (as_waiting r) && is_within used b.base)
-is_owed rule r used (Some v) b = nat_le (serving rule v.long + b.run.long) r.long && (is_berth_no_worse rule.berth (as_waiting r) v && is_within used b.base)
+is_owed rule r used None b = nat_le (enough rule + b.run.long) r.long && (is_berth_enough rule.berth (as_waiting r) && is_no_more rule.limits used b.base)
+is_owed rule r used (Some v) b = nat_le (serving rule v.long + b.run.long) r.long && (is_berth_no_worse rule.berth (as_waiting r) v && is_no_more rule.limits used b.base)
 
 abbrev pub is_owing : SplitRule → Bool → SplitCount → SplitCount → Bool
 is_owing rule may a b = may && (nat_le rule.least a.run.long && (has_split_berth rule.berth a.run && (may_pair rule a.waiting a.run && is_owed rule a.run (without_run a) b.waiting b)))

@@ -71,7 +71,7 @@ abbrev pub IsSplitByBerth : Bool → Bool → Type 0
 IsSplitByBerth may berth = may ≡ true → berth ≡ true
 
 abbrev pub IsLasting : Type 0
-IsLasting = (rule : SplitRule) (may berth : Bool) (ok : SplitCount → Bool) (a b : SplitCount) (x : Activity) (c : Choice) → IsPairRule rule → IsMonotone ok → IsCountOf rule may a → IsSplitByBerth may berth → allowed berth x ≡ true →
+IsLasting = (rule : SplitRule) (may berth : Bool) (ok : SplitCount → Bool) (a b : SplitCount) (x : Activity) (c : Choice) → IsPairRule rule → IsMonotone rule ok → IsCountOf rule may a → IsSplitByBerth may berth → allowed berth x ≡ true →
     Covers rule may a b → Contains (choices rule may ok b x) c → (d : Choice) × Contains (choices rule may ok a x) d × Covers rule may d.count c.count
 
 abbrev pub IsSafeToRest : Type 0

@@ -1,7 +1,7 @@
 //! Which counts may stand for others, whatever comes next, and when resting is safe.
 ghost use Rattle.std.specs.Prelude.{nat_le, ◌&&◌, ◌≡◌, ◌↔◌, ◌≤◌, true};
 ghost use Rattle.sleeper_split.specs.Machine.{IsSplitCount, IsOpenRun, IsUsed, run_of, may_pair, has_split_berth, without_run};
-ghost use Rattle.sleeper_split.specs.Covers.{IsCountOf, Covers, covers_count, is_fresher, is_no_worse, is_owing, is_owed, is_deep, is_within, is_wait_no_worse, is_berth_no_worse, is_ahead, is_free, is_ready, enough, is_berth_enough, serving, waits_none};
+ghost use Rattle.sleeper_split.specs.Covers.{IsCountOf, Covers, covers_count, is_fresher, is_no_worse, is_owing, is_owed, is_deep, is_spent, is_worn, is_no_more, is_last_no_more, is_wait_no_worse, is_berth_no_worse, is_ahead, is_free, is_ready, enough, is_berth_enough, serving, waits_none};
 
 use crate::count::{OpenRun, SplitCount, Used, WaitingRest};
 use crate::rule::{BerthRule, SplitRule};
@@ -80,7 +80,9 @@ impl SplitCount {
         let none = self.waiting().is_none();
         let deep = run.is_deep(other.run(), rule.berth) || (!may && none);
         let keeps = run.long == other.run().long || self.is_ready(rule.berth);
-        let less = self.base().is_within(other.base()) && self.last().is_within(other.last());
+        let base = self.base().is_no_more(other.base(), rule.limits);
+        let last = self.last().is_last_no_more(other.last(), rule.limits, may);
+        let less = base && last;
         other.run().long <= run.long && deep && keeps && less && self.waits_no_worse(other, rule)
     }
 
@@ -97,11 +99,10 @@ impl SplitCount {
 
     /// Whether the split rest that waits is no worse than that of `other`.
     fn waits_no_worse(self, other: SplitCount, rule: SplitRule) -> bool
-        ensures { result ≡ is_wait_no_worse rule self.run self.waiting other.waiting self.base other.last }
+        ensures { result ≡ is_wait_no_worse rule self.run self.waiting other.waiting }
     {
         match (self.waiting(), other.waiting()) {
-            (None, None) => true,
-            (None, Some(_)) => self.base().is_within(other.last()),
+            (None, _) => true,
             (Some(rest), None) => rest.is_enough(rule) && self.is_ready(rule.berth),
             (Some(rest), Some(than)) => {
                 rule.serving(than.long) <= rest.long && rest.serves(than, rule.berth)
@@ -148,7 +149,7 @@ impl SplitCount {
                     && as_rest.serves(rest, rule.berth)
             }
         };
-        serves && used.is_within(other.base())
+        serves && used.is_no_more(other.base(), rule.limits)
     }
 }
 
@@ -165,6 +166,48 @@ impl SplitRule {
         ensures { result ≡ enough self }
     {
         self.pair.saturating_sub(self.least)
+    }
+}
+
+impl Used {
+    /// Whether one of the counts stands at its limit, where there are limits: nothing may be driven
+    /// as long as they count.
+    fn is_spent(self, limits: Option<Used>) -> bool
+        ensures { result ≡ is_spent limits self }
+    {
+        match limits {
+            None => false,
+            Some(limit) => {
+                limit.driving <= self.driving
+                    || limit.duty <= self.duty
+                    || limit.elapsed <= self.elapsed
+            }
+        }
+    }
+
+    /// The same, whatever rest is left out of the counts.
+    fn is_worn(self, limits: Option<Used>) -> bool
+        ensures { result ≡ is_worn limits self }
+    {
+        match limits {
+            None => false,
+            Some(limit) => limit.driving <= self.driving || limit.duty <= self.duty,
+        }
+    }
+
+    /// Whether no count since the base is more, or `other` allows nothing more.
+    fn is_no_more(self, other: Used, limits: Option<Used>) -> bool
+        ensures { result ≡ is_no_more limits self other }
+    {
+        other.is_spent(limits) || self.is_within(other)
+    }
+
+    /// The same of counts since the last rest, which may become counts since the base, without a
+    /// rest, where rests may be split.
+    fn is_last_no_more(self, other: Used, limits: Option<Used>, may: bool) -> bool
+        ensures { result ≡ is_last_no_more limits may self other }
+    {
+        !may || other.is_worn(limits) || self.is_within(other)
     }
 }
 

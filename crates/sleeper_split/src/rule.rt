@@ -1,6 +1,8 @@
 //! How a country lets rest be split.
+use crate::count::Used;
 use duty_core::{
-    CA_FULL_REST, CA_PAIR_LEAST, CA_SPLIT_LEAST, US_FULL_REST, US_PAIR_LEAST, US_SPLIT_LEAST,
+    CA_ELAPSED_LIMIT, CA_FULL_REST, CA_PAIR_LEAST, CA_SHIFT_DRIVING_LIMIT, CA_SHIFT_DUTY_LIMIT,
+    CA_SPLIT_LEAST, US_FULL_REST, US_PAIR_LEAST, US_SPLIT_LEAST,
 };
 
 /// What is asked of a pair's time in the berth.
@@ -23,6 +25,10 @@ pub struct SplitRule {
     pub pair: u32,
     /// What is asked of the pair's time in the berth.
     pub berth: BerthRule,
+    /// The driving, duty and elapsed time since the base at each of which nothing more may be
+    /// driven. `covers` alone asks for them: a count at its limit is no better than one beyond it.
+    /// Where there are none, it compares all counts alike.
+    pub limits: Option<Used>,
 }
 
 impl SplitRule {
@@ -32,6 +38,7 @@ impl SplitRule {
         full: US_FULL_REST,
         pair: US_PAIR_LEAST,
         berth: BerthRule::SevenInOne,
+        limits: None,
     };
 
     /// Canada, south of 60°N (SOR/2005-313, section 18).
@@ -40,5 +47,10 @@ impl SplitRule {
         full: CA_FULL_REST,
         pair: CA_PAIR_LEAST,
         berth: BerthRule::AllOfNext,
+        limits: Some(Used {
+            driving: CA_SHIFT_DRIVING_LIMIT,
+            duty: CA_SHIFT_DUTY_LIMIT,
+            elapsed: CA_ELAPSED_LIMIT,
+        }),
     };
 }

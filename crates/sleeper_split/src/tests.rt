@@ -310,14 +310,58 @@ fn worn(used: u32, waiting: Option<WaitingRest>) -> Option<SplitCount>
     SplitCount::of_parts(run, base, last, waiting)
 }
 
+/// Whether the first may stand for the second by a rule.
+fn stands_by(rule: SplitRule, may: bool, a: Option<SplitCount>, b: Option<SplitCount>) -> bool
+    requires a { IfSome a IsSplitCount }
+    requires b { IfSome b IsSplitCount }
+{
+    match (a, b) {
+        (Some(a), Some(b)) => a.covers(b, rule, may),
+        _ => false,
+    }
+}
+
 /// Whether the first may stand for the second in the United States.
 fn stands(a: Option<SplitCount>, b: Option<SplitCount>) -> bool
     requires a { IfSome a IsSplitCount }
     requires b { IfSome b IsSplitCount }
 {
-    match (a, b) {
-        (Some(a), Some(b)) => a.covers(b, SplitRule::US, true),
-        _ => false,
+    stands_by(SplitRule::US, true, a, b)
+}
+
+/// Counts with nothing but these used since the last full rest.
+fn used_up(driving: u32, duty: u32, elapsed: u32) -> Option<SplitCount>
+    ensures { IfSome result IsSplitCount }
+{
+    let used = Used {
+        driving,
+        duty,
+        elapsed,
+    };
+    let run = OpenRun {
+        long: 0,
+        stretch: 0,
+        longest: 0,
+    };
+    SplitCount::of_parts(run, used, used, None)
+}
+
+#[test]
+fn counts_at_a_limit_of_canada_are_not_compared(rt: HostRuntime) {
+    let much = used_up(700, 830, 950);
+    for (driving, duty, elapsed, split, defer) in [
+        (780, 780, 780, true, true),
+        (779, 779, 779, false, false),
+        (0, 840, 840, true, true),
+        (0, 839, 839, false, false),
+        // A split rest may take its own time from the elapsed time.
+        (0, 0, 960, false, true),
+        (0, 0, 959, false, false),
+    ] {
+        let other = used_up(driving, duty, elapsed);
+        assert_eq!(rt; stands_by(SplitRule::CANADA, true, much, other), split);
+        assert_eq!(rt; stands_by(SplitRule::CANADA, false, much, other), defer);
+        assert!(rt; !stands_by(SplitRule::US, false, much, other));
     }
 }
 

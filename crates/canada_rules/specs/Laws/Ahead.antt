@@ -1,5 +1,5 @@
 -- Where resting in place of anything else is safe.
-use Rattle.std.proofs.Common.{◌≡◌, ℕ, ◌+◌, ◌-◌, Bool, true, false, cond, refl, sym, ◌∙◌, subst, arith}
+use Rattle.std.proofs.Common.{◌≡◌, ℕ, ◌+◌, ◌-◌, Bool, true, false, cond, refl, sym, ◌∙◌, subst, arith, inr}
 use Rattle.std.specs.Prelude.{Option, None, Some}
 use Rattle.std.proofs.lemmas.Bool.{cond-true}
 use Rattle.duty_core.specs.declared.activity.Activity.{Activity}
@@ -40,8 +40,8 @@ rest_keeps true start d at = refl
 rest_keeps false start d at = refl
 
 rest_less : (berth : Bool) (x : Activity) (d : DayDuty) → DayCovers (day_more (own_rest berth) d) (day_more x d)
-rest_less true x d = record { driving = omega arith; duty = omega arith }
-rest_less false x d = record { driving = omega arith; duty = omega arith }
+rest_less true x d = inr (record { driving = omega arith; duty = omega arith })
+rest_less false x d = inr (record { driving = omega arith; duty = omega arith })
 
 -- Where resting is safe, the tour's rest leads to a state where it still is.
 pub ca_ahead_stays : (berth : Bool) (way : RestWay) (start : ℕ) (a : CanadaState) (at : ℕ) → IsCanadaState (ca_may berth way) way start a at → ca_ahead (ca_may berth way) a ≡ true →

@@ -75,7 +75,7 @@ day_better start first p q c d at least e long h k better =
     elim (cases_lt (ca_day start first (length p - 1)) (ca_day start first (length p))) [
       | inl l ↦ (
           let b : begins_day start at ≡ true = sym same ∙ (let z : begins (ca_day start first) (length p) ≡ true = grind (arith, nat_tests) in z) in
-          subst (λ v. DayCovers (day_begun v c) (day_begun v d)) (sym b) (record { driving = omega arith; duty = omega arith }))
+          subst (λ v. DayCovers (day_begun v c) (day_begun v d)) (sym b) (inr (record { driving = omega arith; duty = omega arith })))
       | inr l ↦ (
           let b : begins_day start at ≡ false = sym same ∙ (let z : begins (ca_day start first) (length p) ≡ false = grind (arith, nat_tests) in z) in
           let one : ca_day start first (length p - 1) ≡ ca_day start first (length p) = omega arith in
@@ -92,7 +92,7 @@ day_better start first p q c d at least e long h k better =
           let dv = counted works p h.from c.duty h.worked in
           let eu : driving q h.from (length q) ≡ d.driving = subst (λ f. driving q f (length q) ≡ d.driving) from (counted drives q k.from d.driving k.drove) in
           let ev : duty q h.from (length q) ≡ d.duty = subst (λ f. duty q f (length q) ≡ d.duty) from (counted works q k.from d.duty k.worked) in
-          subst (λ v. DayCovers (day_begun v c) (day_begun v d)) (sym b) (record { driving = omega arith; duty = omega arith }))
+          subst (λ v. DayCovers (day_begun v c) (day_begun v d)) (sym b) (inr (record { driving = omega arith; duty = omega arith })))
     ]
 
 -- # States

@@ -56,15 +56,32 @@ same : (a b : ℕ) → nat_eq a b ≡ true → a ≡ b
 same a b h = grind (arith, nat_tests)
 
 -- the driving and the duty of the day are no more
-pub record DayCovers (a b : DayDuty) : Type 0 where
+pub record DayWithin (a b : DayDuty) : Type 0 where
   pub driving : a.driving ≤ b.driving
   pub duty : a.duty ≤ b.duty
 
+-- driving or duty of the day stands at its limit
+abbrev pub IsDaySpent : DayDuty → Type 0
+IsDaySpent d = (CA_DAY_DRIVING_LIMIT ≤ d.driving) ⊎ (CA_DAY_DUTY_LIMIT ≤ d.duty)
+
+abbrev pub DayCovers : DayDuty → DayDuty → Type 0
+DayCovers a b = IsDaySpent b ⊎ DayWithin a b
+
 day_decides : (a b : DayDuty) → (day_covers a b ≡ true) ↔ DayCovers a b
-day_decides a b = (
-  (λ h. record { driving = upto a.driving b.driving (and_left (nat_le a.driving b.driving) (nat_le a.duty b.duty) h); duty = upto a.duty b.duty (and_right (nat_le a.driving b.driving) (nat_le a.duty b.duty) h) }),
-  (λ h. and_both (nat_le a.driving b.driving) (nat_le a.duty b.duty) (is_upto a.driving b.driving h.driving) (is_upto a.duty b.duty h.duty)),
-)
+day_decides a b =
+    let d : Bool = nat_le CA_DAY_DRIVING_LIMIT b.driving in
+    let w : Bool = nat_le CA_DAY_DUTY_LIMIT b.duty in
+    let m : Bool = nat_le a.driving b.driving in
+    let n : Bool = nat_le a.duty b.duty in (
+      (λ h. elim (or_cases (d || w) (m && n) h) [
+        | inl e ↦ inl (elim (or_cases d w e) [ inl u ↦ inl (upto CA_DAY_DRIVING_LIMIT b.driving u) | inr u ↦ inr (upto CA_DAY_DUTY_LIMIT b.duty u) ])
+        | inr e ↦ inr (record { driving = upto a.driving b.driving (and_left m n e); duty = upto a.duty b.duty (and_right m n e) })
+      ]),
+      (λ h. elim h [
+        | inl e ↦ or_left (d || w) (m && n) (elim e [ inl u ↦ or_left d w (is_upto CA_DAY_DRIVING_LIMIT b.driving u) | inr u ↦ or_right d w (is_upto CA_DAY_DUTY_LIMIT b.duty u) ])
+        | inr e ↦ or_right (d || w) (m && n) (and_both m n (is_upto a.driving b.driving e.driving) (is_upto a.duty b.duty e.duty))
+      ]),
+    )
 
 way_means : (a b : RestWay) → same_way a b ≡ true → a ≡ b
 way_means Split Split h = refl
@@ -248,13 +265,18 @@ state_decides may start a b at =
 pub ca_covers_itself : (may : Bool) (start : ℕ) (s : CanadaState) (at : ℕ) → covers_state may start s s at ≡ true
 ca_covers_itself may start s at = (state_decides may start s s at).1 (record {
   split = covers_same CANADA may s.split;
-  day = record { driving = omega arith; duty = omega arith };
+  day = inr (record { driving = omega arith; duty = omega arith });
   days = days_cover_self (days_begun (begins_day start at) s.calendar.days);
   cycle = cycle_covers_self (begins_day start at) s.calendar.cycle;
 })
 
+spent_more : (a b : DayDuty) → DayWithin a b → IsDaySpent a → IsDaySpent b
+spent_more a b h e = let u = h.driving in let v = h.duty in elim e [ inl d ↦ inl (omega arith) | inr w ↦ inr (omega arith) ]
+
 day_over : (a b c : DayDuty) → DayCovers a b → DayCovers b c → DayCovers a c
-day_over a b c h g = let x = h.driving in let y = g.driving in let u = h.duty in let v = g.duty in record { driving = omega arith; duty = omega arith }
+day_over a b c h (inl e) = inl e
+day_over a b c (inl e) (inr g) = inl (spent_more b c g e)
+day_over a b c (inr h) (inr g) = inr (let x = h.driving in let y = g.driving in let u = h.duty in let v = g.duty in record { driving = omega arith; duty = omega arith })
 
 pub ca_covers_on : (may : Bool) (way : RestWay) (start : ℕ) (a b c : CanadaState) (at : ℕ) → IsCanadaState may way start a at → covers_state may start a b at ≡ true → covers_state may start b c at ≡ true → covers_state may start a c at ≡ true
 ca_covers_on may way start a b c at i h g =
@@ -271,21 +293,32 @@ ca_covers_on may way start a b c at i h g =
 -- # One more unit
 
 day_more_covers : (x : Activity) (a b : DayDuty) → DayCovers a b → DayCovers (day_more x a) (day_more x b)
-day_more_covers x a b h = let u = h.driving in let v = h.duty in record { driving = omega arith; duty = omega arith }
+day_more_covers x a b h = elim h [
+  | inl e ↦ inl (spent_more b (day_more x b) (record { driving = omega arith; duty = omega arith }) e)
+  | inr g ↦ inr (let u = g.driving in let v = g.duty in record { driving = omega arith; duty = omega arith })
+]
 
 pub day_begun_covers : (new : Bool) (a b : DayDuty) → DayCovers a b → DayCovers (day_begun new a) (day_begun new b)
-day_begun_covers true a b h = record { driving = omega arith; duty = omega arith }
+day_begun_covers true a b h = inr (record { driving = omega arith; duty = omega arith })
 day_begun_covers false a b h = h
 
 both_less : (a b c d m n : ℕ) → a ≤ c → b ≤ d → (nat_le c m && nat_le d n) ≡ true → (nat_le a m && nat_le b n) ≡ true
 both_less a b c d m n h g e = grind (arith, nat_tests)
 
-day_keeps_less : (x : Activity) (a b : DayDuty) → DayCovers a b → day_keeps b x ≡ true → day_keeps a x ≡ true
-day_keeps_less Drive a b h e = both_less a.driving a.duty b.driving b.duty CA_DAY_DRIVING_LIMIT CA_DAY_DUTY_LIMIT h.driving h.duty e
-day_keeps_less Serve a b h e = refl
-day_keeps_less Wait a b h e = refl
-day_keeps_less Off a b h e = refl
-day_keeps_less Berth a b h e = refl
+-- a day that is spent keeps no minute of driving more
+spent_stops : (d : DayDuty) → IsDaySpent d → day_keeps (day_more Drive d) Drive ≡ true → ⊥
+spent_stops d h e =
+    let u = upto (d.driving + 1) CA_DAY_DRIVING_LIMIT (and_left (nat_le (d.driving + 1) CA_DAY_DRIVING_LIMIT) (nat_le (d.duty + 1) CA_DAY_DUTY_LIMIT) e) in
+    let v = upto (d.duty + 1) CA_DAY_DUTY_LIMIT (and_right (nat_le (d.driving + 1) CA_DAY_DRIVING_LIMIT) (nat_le (d.duty + 1) CA_DAY_DUTY_LIMIT) e) in
+    elim h [ inl a ↦ omega arith | inr a ↦ omega arith ]
+
+day_keeps_covered : (x : Activity) (a b : DayDuty) → DayCovers a b → day_keeps (day_more x b) x ≡ true → day_keeps (day_more x a) x ≡ true
+day_keeps_covered Drive a b (inl h) e = absurd (spent_stops b h e)
+day_keeps_covered Drive a b (inr h) e = let u = h.driving in let v = h.duty in both_less (a.driving + 1) (a.duty + 1) (b.driving + 1) (b.duty + 1) CA_DAY_DRIVING_LIMIT CA_DAY_DUTY_LIMIT (omega arith) (omega arith) e
+day_keeps_covered Serve a b h e = refl
+day_keeps_covered Wait a b h e = refl
+day_keeps_covered Off a b h e = refl
+day_keeps_covered Berth a b h e = refl
 
 pub may_means : (berth : Bool) (way : RestWay) → ca_may berth way ≡ true → berth ≡ true
 may_means true way h = refl
@@ -304,7 +337,7 @@ ca_simulation berth way cycle start a b at x n i h allowed o =
     let d = days_simulate a.calendar.days b.calendar.days k.got.0.days x new (ca_date start at) k.got.1 c.days f.days in
     let y = cycle_simulates a.calendar.cycle b.calendar.cycle k.got.0.cycle x new next c.cycle f.cycle in
     let more : DayCovers (day_after start a.calendar.day at x) (day_after start b.calendar.day at x) = day_more_covers x (day_begun new a.calendar.day) (day_begun new b.calendar.day) c.day in
-    let ok = day_keeps_less x (day_after start a.calendar.day at x) (day_after start b.calendar.day at x) more f.ok in
+    let ok = day_keeps_covered x (day_begun new a.calendar.day) (day_begun new b.calendar.day) c.day f.ok in
     let got : Calendar × Option Mark = (calendar_made (day_after start a.calendar.day at x) d.days y.counts, d.mark) in
     let there = means_after start a.calendar at x d.days d.mark y.counts ok d.is y.is in
     let t : Next CanadaState = ca_next got (at - run_of a.split) s.0 in

@@ -23,7 +23,7 @@ use Rattle.sleeper_split.specs.declared.count.OpenRun.{OpenRun}
 use Rattle.sleeper_split.specs.declared.count.WaitingRest.{WaitingRest}
 use Rattle.sleeper_split.specs.declared.count.Since.TheVariants.{Driving, Duty, Elapsed}
 use Rattle.sleeper_split.specs.declared.count.SplitCount.{SplitCount}
-use Rattle.sleeper_split.specs.Machine.{IsOpenRun, IsWithin, may_pair, used_of}
+use Rattle.sleeper_split.specs.Machine.{IsOpenRun, IsWithin, after_duty, may_pair, used_of}
 use Rattle.sleeper_split.specs.Tracks.{IsLongest, IsUsedSince, HasLast, IsCounted, Tracks}
 use Rattle.sleeper_split.specs.Laws.Limits.{and_left, and_right, and_both, upto, same, is_upto, is_same, all_means, all_from, berth_means, berth_from, waiting}
 use Rattle.sleeper_split.specs.Promises.{us_keeps, canada_keeps}
@@ -34,23 +34,24 @@ use Rattle.sleeper_split.specs.Covers.{IsPairRule, IsCountOf, IsMonotone, IsBert
 -- # The countries
 
 pub us_pair_rule : IsPairRule US
-us_pair_rule = record { split = us_rule; least = omega arith; shorter = omega arith; pairs = omega arith; owed = omega arith; berth = omega arith }
+us_pair_rule = record { split = us_rule; least = omega arith; shorter = omega arith; pairs = omega arith; owed = omega arith; berth = omega arith; limits = tt }
 
 pub canada_pair_rule : IsPairRule CANADA
-canada_pair_rule = record { split = canada_rule; least = omega arith; shorter = omega arith; pairs = omega arith; owed = omega arith; berth = tt }
+canada_pair_rule = record { split = canada_rule; least = omega arith; shorter = omega arith; pairs = omega arith; owed = omega arith; berth = tt; limits = (omega arith, omega arith, omega arith) }
 
 less_keeps : (n m limit : ℕ) → n ≤ m → nat_le m limit ≡ true → nat_le n limit ≡ true
 less_keeps n m limit l h = let u = upto m limit h in is_upto n limit (omega arith)
 
 -- the limits of the two countries
-pub us_monotone : IsMonotone us_keeps
+pub us_monotone : IsMonotone US us_keeps
 us_monotone = record {
   less = λ s t l h. (let e : ℕ = used_of Elapsed t in and_both (nat_le (used_of Elapsed s) _) (nat_le (used_of Driving s) _)
       (less_keeps (used_of Elapsed s) (used_of Elapsed t) _ l.less_elapsed (and_left (nat_le (used_of Elapsed t) _) (nat_le (used_of Driving t) _) h))
       (less_keeps (used_of Driving s) (used_of Driving t) _ l.less_driving (and_right (nat_le (used_of Elapsed t) _) (nat_le (used_of Driving t) _) h)));
+  spent = λ s n h. n;
 }
 
-pub canada_monotone : IsMonotone canada_keeps
+pub canada_monotone : IsMonotone CANADA canada_keeps
 canada_monotone = record {
   less = λ s t l h. (let k = and_right (nat_le (used_of Driving t) _) (nat_le (used_of Duty t) _ && nat_le (used_of Elapsed t) _) h in
       and_both (nat_le (used_of Driving s) _) (nat_le (used_of Duty s) _ && nat_le (used_of Elapsed s) _)
@@ -58,6 +59,12 @@ canada_monotone = record {
       (and_both (nat_le (used_of Duty s) _) (nat_le (used_of Elapsed s) _)
       (less_keeps (used_of Duty s) (used_of Duty t) _ l.less_duty (and_left (nat_le (used_of Duty t) _) (nat_le (used_of Elapsed t) _) k))
       (less_keeps (used_of Elapsed s) (used_of Elapsed t) _ l.less_elapsed (and_right (nat_le (used_of Duty t) _) (nat_le (used_of Elapsed t) _) k))));
+  spent = λ s n h. (
+      let k = and_right (nat_le (used_of Driving (after_duty true s)) _) (nat_le (used_of Duty (after_duty true s)) _ && nat_le (used_of Elapsed (after_duty true s)) _) h in
+      let d = upto (used_of Driving (after_duty true s)) _ (and_left (nat_le (used_of Driving (after_duty true s)) _) (nat_le (used_of Duty (after_duty true s)) _ && nat_le (used_of Elapsed (after_duty true s)) _) h) in
+      let w = upto (used_of Duty (after_duty true s)) _ (and_left (nat_le (used_of Duty (after_duty true s)) _) (nat_le (used_of Elapsed (after_duty true s)) _) k) in
+      let e = upto (used_of Elapsed (after_duty true s)) _ (and_right (nat_le (used_of Duty (after_duty true s)) _) (nat_le (used_of Elapsed (after_duty true s)) _) k) in
+      elim n [ inl a ↦ omega arith | inr b ↦ elim b [ inl a ↦ omega arith | inr a ↦ omega arith ] ]);
 }
 
 -- what a schedule may hold, by the parameters
@@ -119,11 +126,11 @@ since_waiting rule p Marked used later w a b g h = subst (λ n. IsUsedSince p n 
 pair_none : (rule : SplitRule) (w : Option WaitingRest) (r : OpenRun) → w ≡ None → may_pair rule w r ≡ true
 pair_none rule w r h = subst (λ v. may_pair rule v r ≡ true) (sym h) refl
 
-wait_neither : (rule : SplitRule) (r : OpenRun) (w v : Option WaitingRest) (base last : Used) → w ≡ None → v ≡ None → IsWaitNoWorse rule r w v base last
-wait_neither rule r w v base last h g = subst (λ x. IsWaitNoWorse rule r x v base last) (sym h) (subst (λ y. IsWaitNoWorse rule r None y base last) (sym g) tt)
+wait_none : (rule : SplitRule) (r : OpenRun) (w v : Option WaitingRest) → w ≡ None → IsWaitNoWorse rule r w v
+wait_none rule r w v h = subst (λ x. IsWaitNoWorse rule r x v) (sym h) tt
 
-wait_both : (rule : SplitRule) (q : OpenRun) (w v : Option WaitingRest) (r s : WaitingRest) (base last : Used) → w ≡ Some r → v ≡ Some s → s.long ≤ r.long → IsBerthNoWorse rule.berth r s → IsWaitNoWorse rule q w v base last
-wait_both rule q w v r s base last h g l b = subst (λ x. IsWaitNoWorse rule q x v base last) (sym h) (subst (λ y. IsWaitNoWorse rule q (Some r) y base last) (sym g) (omega arith, b))
+wait_both : (rule : SplitRule) (q : OpenRun) (w v : Option WaitingRest) (r s : WaitingRest) → w ≡ Some r → v ≡ Some s → s.long ≤ r.long → IsBerthNoWorse rule.berth r s → IsWaitNoWorse rule q w v
+wait_both rule q w v r s h g l b = subst (λ x. IsWaitNoWorse rule q x v) (sym h) (subst (λ y. IsWaitNoWorse rule q (Some r) y) (sym g) (omega arith, b))
 
 berth_both : (k : BerthRule) (p q : List Activity) (a b c d : ℕ) (r s : WaitingRest) → IsLongest p a b r.berth → IsLongest q c d s.berth → ((n : ℕ) → HoldsBerth n q c d → HoldsBerth n p a b) → IsBerthNoWorse k r s
 berth_both SevenInOne p q a b c d r s h g f = let z = berth_means h (f s.berth (berth_from g (omega arith))) in omega arith
@@ -152,7 +159,7 @@ better_run rule may pad p Marked q a va t c front false mb g = let m = never_spl
 -- the split rests that wait
 record IsWaitBetter (rule : SplitRule) (a b : SplitCount) : Type 0 where
   less_last : IsWithin a.last b.last
-  waiting : IsWaitNoWorse rule a.run a.waiting b.waiting a.base b.last
+  waiting : IsWaitNoWorse rule a.run a.waiting b.waiting
 
 better_wait : (rule : SplitRule) (p : List Activity) (Marked : ℕ → Type 0) (q : List Activity) (Other : ℕ → Type 0) (a b : SplitCount) → Tracks rule p Marked a → Tracks rule q Other b → HasLast rule p Marked a.base a.last a.waiting → HasLast rule q Other b.base b.last b.waiting → IsWithin a.base b.base →
     NoneWaits rule.full p Marked × NoneWaits rule.full q Other ⊎ BothWait rule.full p Marked q Other → IsWaitBetter rule a b
@@ -160,14 +167,14 @@ better_wait rule p Marked q Other a b t u h k l g = elim g [
   | inl n ↦
       (let x = not_waiting rule p Marked a.base a.last a.waiting n.0 h in
       let y = not_waiting rule q Other b.base b.last b.waiting n.1 k in
-      record { less_last = subst (λ r. IsWithin r b.last) x.0 (subst (IsWithin a.base) y.0 l); waiting = wait_neither rule a.run a.waiting b.waiting a.base b.last x.1 y.1 })
+      record { less_last = subst (λ r. IsWithin r b.last) x.0 (subst (IsWithin a.base) y.0 l); waiting = wait_none rule a.run a.waiting b.waiting x.1 })
   | inr w ↦
       (let x = waiting rule p Marked a t w.a w.b w.waits in
       let y = waiting rule q Other b u w.c w.d w.other_waits in
       let i = x.2 in let j = y.2 in let n = w.long in
       record {
         less_last = less_used p q w.b 0 w.d 0 a.last b.last (since_waiting rule p Marked a.base a.last a.waiting w.a w.b w.waits h) (since_waiting rule q Other b.base b.last b.waiting w.c w.d w.other_waits k) w.less_driving w.less_duty (let e = w.less_elapsed in omega arith);
-        waiting = wait_both rule a.run a.waiting b.waiting x.0 y.0 a.base b.last x.1 y.1 (omega arith) (berth_both rule.berth p q w.a w.b w.c w.d x.0 y.0 x.3 y.3 w.berth);
+        waiting = wait_both rule a.run a.waiting b.waiting x.0 y.0 x.1 y.1 (omega arith) (berth_both rule.berth p q w.a w.b w.c w.d x.0 y.0 x.3 y.3 w.berth);
       })
 ]
 
@@ -185,8 +192,8 @@ better_counted rule may berth pad p Marked q Other a b mb va vb t u ca cb front 
       run = l;
       deep = elim run [ inl e ↦ inl (deep_all rule.berth a.run b.run va.is_count.is_run vb.is_count.is_run l e) | inr n ↦ inr n ];
       keeps = inr (elim run [ inl e ↦ ready_all rule.berth a.waiting a.run e | inr n ↦ ready_none rule.berth a.waiting a.run n.1 ]);
-      less_base = base;
-      less_last = w.less_last;
+      less_base = inr base;
+      less_last = inr (inr w.less_last);
       waiting = w.waiting;
     }
 

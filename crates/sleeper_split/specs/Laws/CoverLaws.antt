@@ -17,7 +17,7 @@ use Rattle.sleeper_split.specs.Machine.{IsUsed, IsOpenRun, IsWithin, IsSplitCoun
 use Rattle.sleeper_split.specs.Choices.{Choice, choice, sleeps, choices}
 use Rattle.sleeper_split.specs.Laws.Limits.{and_left, and_right, and_both, below, upto, same, is_below, is_upto, is_same}
 use Rattle.sleeper_split.specs.Laws.ChoiceLaws.{fits, IsUndeclared, IsAsSplit, IsAsFull, IsChoice, choice_cases, is_choice}
-use Rattle.sleeper_split.specs.Covers.{IsBerthWithin, IsPairRule, WaitsWell, IsCountOf, allowed, own_rest, IsMonotone, IsBerthNoWorse, IsWaitNoWorse, IsDeep, IsBerthEnough, IsReady, IsNoWorse, IsFresher, as_waiting, IsOwed, IsOwing, Covers, is_free, is_ahead, waits_none}
+use Rattle.sleeper_split.specs.Covers.{AreLimits, IsSpent, IsWorn, IsNoMore, IsLastNoMore, IsBerthWithin, IsPairRule, WaitsWell, IsCountOf, allowed, own_rest, IsMonotone, IsBerthNoWorse, IsWaitNoWorse, IsDeep, IsBerthEnough, IsReady, IsNoWorse, IsFresher, as_waiting, IsOwed, IsOwing, Covers, is_free, is_ahead, waits_none}
 
 -- # Tests and counts
 
@@ -60,6 +60,85 @@ within_idle false u h = let b = h.bounded_duty in record { less_driving = omega 
 
 within_run : (a b : SplitCount) → b.run.long ≤ a.run.long → IsWithin a.last b.last → IsWithin (without_run a) (without_run b)
 within_run a b l h = let c = h.less_elapsed in record { less_driving = h.less_driving; less_duty = h.less_duty; less_elapsed = omega arith }
+
+-- # Counts that allow nothing more
+
+-- they stay so
+spent_more : (limits : Option Used) (u v : Used) → IsWithin u v → IsSpent limits u → IsSpent limits v
+spent_more None u v l h = h
+spent_more (Some m) u v l (inl h) = inl (let a = l.less_driving in omega arith)
+spent_more (Some m) u v l (inr (inl h)) = inr (inl (let a = l.less_duty in omega arith))
+spent_more (Some m) u v l (inr (inr h)) = inr (inr (let a = l.less_elapsed in omega arith))
+
+worn_more : (limits : Option Used) (u v : Used) → IsWithin u v → IsWorn limits u → IsWorn limits v
+worn_more None u v l h = h
+worn_more (Some m) u v l (inl h) = inl (let a = l.less_driving in omega arith)
+worn_more (Some m) u v l (inr h) = inr (let a = l.less_duty in omega arith)
+
+spent_duty : (limits : Option Used) (d : Bool) (u : Used) → AreLimits limits → IsSpent limits u → IsSpent limits (worked d u)
+spent_duty None d u b h = h
+spent_duty (Some m) true u b (inl h) = inl (let a = b.0 in omega arith)
+spent_duty (Some m) false u b (inl h) = inl h
+spent_duty (Some m) d u b (inr (inl h)) = inr (inl (let a = b.1 in omega arith))
+spent_duty (Some m) d u b (inr (inr h)) = inr (inr (let a = b.2 in omega arith))
+
+worn_duty : (limits : Option Used) (d : Bool) (u : Used) → AreLimits limits → IsWorn limits u → IsWorn limits (worked d u)
+worn_duty None d u b h = h
+worn_duty (Some m) true u b (inl h) = inl (let a = b.0 in omega arith)
+worn_duty (Some m) false u b (inl h) = inl h
+worn_duty (Some m) d u b (inr h) = inr (let a = b.1 in omega arith)
+
+spent_rest : (limits : Option Used) (u : Used) → AreLimits limits → IsSpent limits u → IsSpent limits (rested u)
+spent_rest None u b h = h
+spent_rest (Some m) u b (inl h) = inl h
+spent_rest (Some m) u b (inr (inl h)) = inr (inl h)
+spent_rest (Some m) u b (inr (inr h)) = inr (inr (let a = b.2 in omega arith))
+
+worn_rest : (limits : Option Used) (u : Used) → IsWorn limits u → IsWorn limits (rested u)
+worn_rest None u h = h
+worn_rest (Some m) u h = h
+
+-- without the run in progress they are spent all the same
+worn_run : (limits : Option Used) (s : SplitCount) → IsWorn limits s.last → IsSpent limits (without_run s)
+worn_run None s h = h
+worn_run (Some m) s (inl h) = inl h
+worn_run (Some m) s (inr h) = inr (inl h)
+
+no_more_over : (limits : Option Used) (u v w : Used) → IsNoMore limits u v → IsNoMore limits v w → IsNoMore limits u w
+no_more_over limits u v w h (inl k) = inl k
+no_more_over limits u v w (inl h) (inr k) = inl (spent_more limits v w k h)
+no_more_over limits u v w (inr h) (inr k) = inr (within_over u v w h k)
+
+no_more_duty : (limits : Option Used) (d : Bool) (u v : Used) → AreLimits limits → IsNoMore limits u v → IsNoMore limits (worked d u) (worked d v)
+no_more_duty limits d u v b (inl h) = inl (spent_duty limits d v b h)
+no_more_duty limits d u v b (inr h) = inr (within_duty d u v h)
+
+no_more_rest : (limits : Option Used) (u v : Used) → AreLimits limits → IsNoMore limits u v → IsNoMore limits (rested u) (rested v)
+no_more_rest limits u v b (inl h) = inl (spent_rest limits v b h)
+no_more_rest limits u v b (inr h) = inr (within_rest u v h)
+
+last_over : (limits : Option Used) (may : Bool) (u v w : Used) → IsLastNoMore limits may u v → IsLastNoMore limits may v w → IsLastNoMore limits may u w
+last_over limits may u v w h (inl k) = inl k
+last_over limits may u v w h (inr (inl k)) = inr (inl k)
+last_over limits may u v w (inl h) (inr (inr k)) = inl h
+last_over limits may u v w (inr (inl h)) (inr (inr k)) = inr (inl (worn_more limits v w k h))
+last_over limits may u v w (inr (inr h)) (inr (inr k)) = inr (inr (within_over u v w h k))
+
+last_duty : (limits : Option Used) (may d : Bool) (u v : Used) → AreLimits limits → IsLastNoMore limits may u v → IsLastNoMore limits may (worked d u) (worked d v)
+last_duty limits may d u v b (inl h) = inl h
+last_duty limits may d u v b (inr (inl h)) = inr (inl (worn_duty limits d v b h))
+last_duty limits may d u v b (inr (inr h)) = inr (inr (within_duty d u v h))
+
+last_rest : (limits : Option Used) (may : Bool) (u v : Used) → IsLastNoMore limits may u v → IsLastNoMore limits may (rested u) (rested v)
+last_rest limits may u v (inl h) = inl h
+last_rest limits may u v (inr (inl h)) = inr (inl (worn_rest limits v h))
+last_rest limits may u v (inr (inr h)) = inr (inr (within_rest u v h))
+
+-- counts since the last rest, without the run that ends as a split rest
+no_more_run : (limits : Option Used) (may : Bool) (a b : SplitCount) → may ≡ true → b.run.long ≤ a.run.long → IsLastNoMore limits may a.last b.last → IsNoMore limits (without_run a) (without_run b)
+no_more_run limits may a b m l (inl h) = absurd (let z : true ≡ false = sym m ∙ h in cc)
+no_more_run limits may a b m l (inr (inl h)) = inl (worn_run limits b h)
+no_more_run limits may a b m l (inr (inr h)) = inr (within_run a b l h)
 
 -- # Values
 
@@ -173,11 +252,11 @@ berth_enough AllOfNext w r h (inl e) = is_same r.stretch r.long e
 berth_enough AllOfNext w r h (inr t) = t
 
 -- the pair test holds of more, where the run may be the second one of a pair
-pair_more : (rule : SplitRule) (w v : Option WaitingRest) (r q : OpenRun) (base last : Used) → IsWaitNoWorse rule r w v base last → rule.least ≤ q.long → q.long ≤ r.long → IsDeep rule.berth r q ⊎ (w ≡ None) → may_pair rule v q ≡ true → may_pair rule w r ≡ true
-pair_more rule None v r q base last h m l d t = refl
-pair_more rule (Some w) None r q base last h m l d t = and_both (nat_le rule.pair (w.long + r.long)) (has_pair_berth rule.berth w r) (is_upto rule.pair (w.long + r.long) (let x = h.0 in omega arith)) (berth_enough rule.berth w r h.1 h.2)
-pair_more rule (Some w) (Some v) r q base last h m l (inr d) t = absurd (let z : Some w ≡ None = d in cc)
-pair_more rule (Some w) (Some v) r q base last h m l (inl d) t =
+pair_more : (rule : SplitRule) (w v : Option WaitingRest) (r q : OpenRun) → IsWaitNoWorse rule r w v → rule.least ≤ q.long → q.long ≤ r.long → IsDeep rule.berth r q ⊎ (w ≡ None) → may_pair rule v q ≡ true → may_pair rule w r ≡ true
+pair_more rule None v r q h m l d t = refl
+pair_more rule (Some w) None r q h m l d t = and_both (nat_le rule.pair (w.long + r.long)) (has_pair_berth rule.berth w r) (is_upto rule.pair (w.long + r.long) (let x = h.0 in omega arith)) (berth_enough rule.berth w r h.1 h.2)
+pair_more rule (Some w) (Some v) r q h m l (inr d) t = absurd (let z : Some w ≡ None = d in cc)
+pair_more rule (Some w) (Some v) r q h m l (inl d) t =
     let c = upto rule.pair (v.long + q.long) (and_left (nat_le rule.pair (v.long + q.long)) (has_pair_berth rule.berth v q) t) in
     let x = h.0 in
     and_both (nat_le rule.pair (w.long + r.long)) (has_pair_berth rule.berth w r) (is_upto rule.pair (w.long + r.long) (omega arith))
@@ -232,9 +311,9 @@ berth_same : (k : BerthRule) (w : WaitingRest) → IsBerthNoWorse k w w
 berth_same SevenInOne w = omega arith
 berth_same AllOfNext w = tt
 
-wait_same : (rule : SplitRule) (r : OpenRun) (w : Option WaitingRest) (base last : Used) → IsWaitNoWorse rule r w w base last
-wait_same rule r None base last = tt
-wait_same rule r (Some w) base last = (omega arith, berth_same rule.berth w)
+wait_same : (rule : SplitRule) (r : OpenRun) (w : Option WaitingRest) → IsWaitNoWorse rule r w w
+wait_same rule r None = tt
+wait_same rule r (Some w) = (omega arith, berth_same rule.berth w)
 
 enough_over : (k : BerthRule) (u w : WaitingRest) → IsBerthNoWorse k u w → IsBerthEnough k w → IsBerthEnough k u
 enough_over SevenInOne u w h g = omega arith
@@ -251,18 +330,15 @@ enough_ready AllOfNext u w r q h (inl d) g = inl d
 enough_ready AllOfNext u w r q h (inr d) (inl e) = inl (let a = d.0 in let b = d.1 in omega arith)
 enough_ready AllOfNext u w r q h (inr d) (inr t) = inl (let e = same q.stretch q.long t in let a = d.0 in let b = d.1 in omega arith)
 
-wait_over : (rule : SplitRule) (r q : OpenRun) (u w v : Option WaitingRest) (b1 b2 l2 l3 : Used) → IsDeep rule.berth r q ⊎ (u ≡ None) → IsWithin b1 b2 → IsWithin l2 l3 → IsWaitNoWorse rule r u w b1 l2 → IsWaitNoWorse rule q w v b2 l3 → IsWaitNoWorse rule r u v b1 l3
-wait_over rule r q None None None b1 b2 l2 l3 d h g p n = tt
-wait_over rule r q None None (Some v) b1 b2 l2 l3 d h g p n = within_over b1 b2 l3 h n
-wait_over rule r q None (Some w) None b1 b2 l2 l3 d h g p n = tt
-wait_over rule r q None (Some w) (Some v) b1 b2 l2 l3 d h g p n = within_over b1 l2 l3 p g
-wait_over rule r q (Some u) None None b1 b2 l2 l3 d h g p n = p
-wait_over rule r q (Some u) None (Some v) b1 b2 l2 l3 d h g p n = (let a = p.0 in omega arith, enough_for rule.berth u v p.1)
-wait_over rule r q (Some u) (Some w) None b1 b2 l2 l3 (inr d) h g p n = absurd (let z : Some u ≡ None = d in cc)
-wait_over rule r q (Some u) (Some w) None b1 b2 l2 l3 (inl d) h g p n =
+wait_over : (rule : SplitRule) (r q : OpenRun) (u w v : Option WaitingRest) → IsDeep rule.berth r q ⊎ (u ≡ None) → IsWaitNoWorse rule r u w → IsWaitNoWorse rule q w v → IsWaitNoWorse rule r u v
+wait_over rule r q None w v d p n = tt
+wait_over rule r q (Some u) None None d p n = p
+wait_over rule r q (Some u) None (Some v) d p n = (let a = p.0 in omega arith, enough_for rule.berth u v p.1)
+wait_over rule r q (Some u) (Some w) None (inr d) p n = absurd (let z : Some u ≡ None = d in cc)
+wait_over rule r q (Some u) (Some w) None (inl d) p n =
     let e = enough_over rule.berth u w p.1 n.1 in
     (let a = p.0 in let c = n.0 in omega arith, e, enough_ready rule.berth u w r q e d n.2)
-wait_over rule r q (Some u) (Some w) (Some v) b1 b2 l2 l3 d h g p n = (let a = p.0 in let c = n.0 in omega arith, berth_over rule.berth u w v p.1 n.1)
+wait_over rule r q (Some u) (Some w) (Some v) d p n = (let a = p.0 in let c = n.0 in omega arith, berth_over rule.berth u w v p.1 n.1)
 
 -- where rests may not be split nothing waits
 pub nothing_waits : (rule : SplitRule) (may : Bool) (a : SplitCount) → IsCountOf rule may a → may ≡ false → a.waiting ≡ None
@@ -273,13 +349,13 @@ covers_same rule may a = inr (inl (record {
   run = omega arith;
   deep = inl (deep_same rule.berth a.run);
   keeps = inl refl;
-  less_base = within_same a.base;
-  less_last = within_same a.last;
-  waiting = wait_same rule a.run a.waiting a.base a.last;
+  less_base = inr (within_same a.base);
+  less_last = inr (inr (within_same a.last));
+  waiting = wait_same rule a.run a.waiting;
 }))
 
 no_worse_pair : (rule : SplitRule) (may : Bool) (a b : SplitCount) → IsNoWorse rule may a b → rule.least ≤ b.run.long → may_pair rule b.waiting b.run ≡ true → may_pair rule a.waiting a.run ≡ true
-no_worse_pair rule may a b h m t = pair_more rule a.waiting b.waiting a.run b.run a.base b.last h.waiting m h.run (elim h.deep [ inl d ↦ inl d | inr d ↦ inr d.1 ]) t
+no_worse_pair rule may a b h m t = pair_more rule a.waiting b.waiting a.run b.run h.waiting m h.run (elim h.deep [ inl d ↦ inl d | inr d ↦ inr d.1 ]) t
 
 -- equal runs, of which one is all in the berth
 all_over : (k : BerthRule) (w : WaitingRest) (r q : OpenRun) → IsOpenRun r → IsDeep k r q → r.long ≡ q.long → q.stretch ≡ q.long → (r.stretch ≡ r.long) ⊎ (has_pair_berth k w r ≡ true)
@@ -290,11 +366,11 @@ all_over SevenInOne w r q o d e h = let a = o.ends in let b = o.inside in let c 
 all_over AllOfNext w r q o (inl d) e h = inl d
 all_over AllOfNext w r q o (inr d) e h = inl (let a = d.1 in omega arith)
 
-ready_over : (rule : SplitRule) (w v : Option WaitingRest) (r q : OpenRun) (base last : Used) → IsOpenRun r → IsWaitNoWorse rule r w v base last → IsDeep rule.berth r q → r.long ≡ q.long → IsReady rule.berth v q → IsReady rule.berth w r
-ready_over rule None v r q base last o h d e g = tt
-ready_over rule (Some w) None r q base last o h d e g = h.2
-ready_over rule (Some w) (Some v) r q base last o h d e (inl g) = all_over rule.berth w r q o d e g
-ready_over rule (Some w) (Some v) r q base last o h d e (inr g) = inr (has_pair_more rule.berth w v r q h.1 d g)
+ready_over : (rule : SplitRule) (w v : Option WaitingRest) (r q : OpenRun) → IsOpenRun r → IsWaitNoWorse rule r w v → IsDeep rule.berth r q → r.long ≡ q.long → IsReady rule.berth v q → IsReady rule.berth w r
+ready_over rule None v r q o h d e g = tt
+ready_over rule (Some w) None r q o h d e g = h.2
+ready_over rule (Some w) (Some v) r q o h d e (inl g) = all_over rule.berth w r q o d e g
+ready_over rule (Some w) (Some v) r q o h d e (inr g) = inr (has_pair_more rule.berth w v r q h.1 d g)
 
 pub ready_none : (k : BerthRule) (w : Option WaitingRest) (r : OpenRun) → w ≡ None → IsReady k w r
 ready_none k w r h = subst (λ v. IsReady k v r) (sym h) tt
@@ -315,14 +391,14 @@ no_worse_over rule may a b c va h k = let r1 = h.run in let r2 = k.run in record
     | inl u ↦ elim k.keeps [
       | inl v ↦ inl (u ∙ v)
       | inr v ↦ inr (elim h.deep [
-        | inl d ↦ ready_over rule a.waiting b.waiting a.run b.run a.base b.last va.is_count.is_run h.waiting d u v
+        | inl d ↦ ready_over rule a.waiting b.waiting a.run b.run va.is_count.is_run h.waiting d u v
         | inr d ↦ ready_none rule.berth a.waiting a.run d.1
       ])
     ]
   ];
-  less_base = within_over a.base b.base c.base h.less_base k.less_base;
-  less_last = within_over a.last b.last c.last h.less_last k.less_last;
-  waiting = wait_over rule a.run b.run a.waiting b.waiting c.waiting a.base b.base b.last c.last (elim h.deep [ inl d ↦ inl d | inr d ↦ inr d.1 ]) h.less_base k.less_last h.waiting k.waiting;
+  less_base = no_more_over rule.limits a.base b.base c.base h.less_base k.less_base;
+  less_last = last_over rule.limits may a.last b.last c.last h.less_last k.less_last;
+  waiting = wait_over rule a.run b.run a.waiting b.waiting c.waiting (elim h.deep [ inl d ↦ inl d | inr d ↦ inr d.1 ]) h.waiting k.waiting;
 }
 
 split_berth_more : (k : BerthRule) (r q : OpenRun) → IsDeep k r q → has_split_berth k q ≡ true → has_split_berth k r ≡ true
@@ -341,9 +417,9 @@ deep_berth AllOfNext r q d = tt
 deep_enough : (k : BerthRule) (r q : OpenRun) → IsDeep k r q → IsBerthEnough k (as_waiting q) → IsBerthEnough k (as_waiting r)
 deep_enough k r q d h = enough_over k (as_waiting r) (as_waiting q) (deep_berth k r q d) h
 
-owed_more : (rule : SplitRule) (r q : OpenRun) (u v : Used) (w : Option WaitingRest) (c : SplitCount) → q.long ≤ r.long → IsDeep rule.berth r q → IsWithin u v → IsOwed rule q v w c → IsOwed rule r u w c
-owed_more rule r q u v None c l n i h = (let x = h.0 in omega arith, deep_enough rule.berth r q n h.1, within_over u v c.base i h.2)
-owed_more rule r q u v (Some w) c l n i h = (let x = h.0 in omega arith, berth_over rule.berth (as_waiting r) (as_waiting q) w (deep_berth rule.berth r q n) h.1, within_over u v c.base i h.2)
+owed_more : (rule : SplitRule) (r q : OpenRun) (u v : Used) (w : Option WaitingRest) (c : SplitCount) → q.long ≤ r.long → IsDeep rule.berth r q → IsNoMore rule.limits u v → IsOwed rule q v w c → IsOwed rule r u w c
+owed_more rule r q u v None c l n i h = (let x = h.0 in omega arith, deep_enough rule.berth r q n h.1, no_more_over rule.limits u v c.base i h.2)
+owed_more rule r q u v (Some w) c l n i h = (let x = h.0 in omega arith, berth_over rule.berth (as_waiting r) (as_waiting q) w (deep_berth rule.berth r q n) h.1, no_more_over rule.limits u v c.base i h.2)
 
 no_worse_owing : (rule : SplitRule) (may : Bool) (a b c : SplitCount) → IsNoWorse rule may a b → IsOwing rule may b c → IsOwing rule may a c
 no_worse_owing rule may a b c h k =
@@ -354,14 +430,14 @@ no_worse_owing rule may a b c h k =
       least = let l = k.least in omega arith;
       berth = split_berth_more rule.berth a.run b.run d k.berth;
       pair = no_worse_pair rule may a b h k.least k.pair;
-      owed = owed_more rule a.run b.run (without_run a) (without_run b) c.waiting c r d (within_run a b r h.less_last) k.owed;
+      owed = owed_more rule a.run b.run (without_run a) (without_run b) c.waiting c r d (no_more_run rule.limits may a b k.allows r h.less_last) k.owed;
     }
 
-owed_less : (rule : SplitRule) (r q : OpenRun) (u : Used) (w v : Option WaitingRest) (b c : SplitCount) (base last : Used) → c.run.long ≤ b.run.long → IsWithin b.base c.base → IsWaitNoWorse rule q w v base last → IsOwed rule r u w b → IsOwed rule r u v c
-owed_less rule r q u None None b c base last l i n h = (let x = h.0 in omega arith, h.1, within_over u b.base c.base h.2 i)
-owed_less rule r q u None (Some v) b c base last l i n h = (let x = h.0 in omega arith, enough_for rule.berth (as_waiting r) v h.1, within_over u b.base c.base h.2 i)
-owed_less rule r q u (Some w) None b c base last l i n h = (let x = h.0 in let y = n.0 in omega arith, enough_over rule.berth (as_waiting r) w h.1 n.1, within_over u b.base c.base h.2 i)
-owed_less rule r q u (Some w) (Some v) b c base last l i n h = (let x = h.0 in let y = n.0 in omega arith, berth_over rule.berth (as_waiting r) w v h.1 n.1, within_over u b.base c.base h.2 i)
+owed_less : (rule : SplitRule) (r q : OpenRun) (u : Used) (w v : Option WaitingRest) (b c : SplitCount) → c.run.long ≤ b.run.long → IsNoMore rule.limits b.base c.base → IsWaitNoWorse rule q w v → IsOwed rule r u w b → IsOwed rule r u v c
+owed_less rule r q u None None b c l i n h = (let x = h.0 in omega arith, h.1, no_more_over rule.limits u b.base c.base h.2 i)
+owed_less rule r q u None (Some v) b c l i n h = (let x = h.0 in omega arith, enough_for rule.berth (as_waiting r) v h.1, no_more_over rule.limits u b.base c.base h.2 i)
+owed_less rule r q u (Some w) None b c l i n h = (let x = h.0 in let y = n.0 in omega arith, enough_over rule.berth (as_waiting r) w h.1 n.1, no_more_over rule.limits u b.base c.base h.2 i)
+owed_less rule r q u (Some w) (Some v) b c l i n h = (let x = h.0 in let y = n.0 in omega arith, berth_over rule.berth (as_waiting r) w v h.1 n.1, no_more_over rule.limits u b.base c.base h.2 i)
 
 owing_no_worse : (rule : SplitRule) (may : Bool) (a b c : SplitCount) → IsOwing rule may a b → IsNoWorse rule may b c → IsOwing rule may a c
 owing_no_worse rule may a b c h k = record {
@@ -369,7 +445,7 @@ owing_no_worse rule may a b c h k = record {
   least = h.least;
   berth = h.berth;
   pair = h.pair;
-  owed = owed_less rule a.run b.run (without_run a) b.waiting c.waiting b c b.base c.last k.run k.less_base k.waiting h.owed;
+  owed = owed_less rule a.run b.run (without_run a) b.waiting c.waiting b c k.run k.less_base k.waiting h.owed;
 }
 
 -- where b's run is a pair with what waits in it, a's run is as long as a pair
@@ -398,37 +474,33 @@ pub record HasCover (rule : SplitRule) (may : Bool) (ok : SplitCount → Bool) (
   pub is : IsChoice rule may ok a x choice
   pub covers : Covers rule may choice.count c.count
 
-fits_less : (ok : SplitCount → Bool) (x : Activity) (s t : SplitCount) → IsMonotone ok → IsWithin (worked (drives x) s.base) (worked (drives x) t.base) → fits ok x t ≡ true → fits ok x s ≡ true
-fits_less ok Drive s t m l h = m.less (after_duty true s) (after_duty true t) l h
-fits_less ok Serve s t m l h = refl
-fits_less ok Wait s t m l h = refl
-fits_less ok Off s t m l h = refl
-fits_less ok Berth s t m l h = refl
+fits_less : (rule : SplitRule) (ok : SplitCount → Bool) (x : Activity) (s t : SplitCount) → IsMonotone rule ok → IsNoMore rule.limits s.base t.base → fits ok x t ≡ true → fits ok x s ≡ true
+fits_less rule ok Drive s t m (inl l) h = absurd (m.spent t l h)
+fits_less rule ok Drive s t m (inr l) h = m.less (after_duty true s) (after_duty true t) (within_duty true s.base t.base l) h
+fits_less rule ok Serve s t m l h = refl
+fits_less rule ok Wait s t m l h = refl
+fits_less rule ok Off s t m l h = refl
+fits_less rule ok Berth s t m l h = refl
 
 deep_none : (k : BerthRule) → IsDeep k no_run no_run
 deep_none SevenInOne = (omega arith, omega arith)
 deep_none AllOfNext = inl refl
 
-wait_duty : (rule : SplitRule) (r : OpenRun) (w v : Option WaitingRest) (d : Bool) (base last : Used) → IsWaitNoWorse rule r w v base last → IsWaitNoWorse rule no_run w v (worked d base) (worked d last)
-wait_duty rule r None None d base last h = tt
-wait_duty rule r None (Some v) d base last h = within_duty d base last h
-wait_duty rule r (Some w) None d base last h = (h.0, h.1, inl refl)
-wait_duty rule r (Some w) (Some v) d base last h = h
+wait_duty : (rule : SplitRule) (r : OpenRun) (w v : Option WaitingRest) → IsWaitNoWorse rule r w v → IsWaitNoWorse rule no_run w v
+wait_duty rule r None v h = tt
+wait_duty rule r (Some w) None h = (h.0, h.1, inl refl)
+wait_duty rule r (Some w) (Some v) h = h
 
 -- after a unit of duty
-duty_no_worse : (rule : SplitRule) (may : Bool) (d : Bool) (r : OpenRun) (a b : SplitCount) → IsWithin a.base b.base → IsWithin a.last b.last → IsWaitNoWorse rule r a.waiting b.waiting a.base b.last → IsNoWorse rule may (after_duty d a) (after_duty d b)
-duty_no_worse rule may d r a b h g w = record {
+duty_no_worse : (rule : SplitRule) (may : Bool) (d : Bool) (r : OpenRun) (a b : SplitCount) → IsPairRule rule → IsNoMore rule.limits a.base b.base → IsLastNoMore rule.limits may a.last b.last → IsWaitNoWorse rule r a.waiting b.waiting → IsNoWorse rule may (after_duty d a) (after_duty d b)
+duty_no_worse rule may d r a b good h g w = record {
   run = omega arith;
   deep = inl (deep_none rule.berth);
   keeps = inl refl;
-  less_base = within_duty d a.base b.base h;
-  less_last = within_duty d a.last b.last g;
-  waiting = wait_duty rule r a.waiting b.waiting d a.base b.last w;
+  less_base = no_more_duty rule.limits d a.base b.base good.limits h;
+  less_last = last_duty rule.limits may d a.last b.last good.limits g;
+  waiting = wait_duty rule r a.waiting b.waiting w;
 }
-
-wait_least : (rule : SplitRule) (v : Option WaitingRest) (d : Bool) (last : Used) → IsWaitNoWorse rule no_run None v (worked d none_used) (worked d last)
-wait_least rule None d last = tt
-wait_least rule (Some v) d last = within_least d last
 
 -- after a full rest and a unit of duty nothing is better
 fresh_no_worse : (rule : SplitRule) (may : Bool) (d : Bool) (u : SplitCount) → IsNoWorse rule may (after_duty d rested_count) (after_duty d u)
@@ -436,9 +508,9 @@ fresh_no_worse rule may d u = record {
   run = omega arith;
   deep = inl (deep_none rule.berth);
   keeps = inl refl;
-  less_base = within_least d u.base;
-  less_last = within_least d u.last;
-  waiting = wait_least rule u.waiting d u.last;
+  less_base = inr (within_least d u.base);
+  less_last = inr (inr (within_least d u.last));
+  waiting = tt;
 }
 
 -- a unit of duty, whatever the run in progress was
@@ -460,18 +532,21 @@ duty_of rule may ok b x c h = elim h [
   ]
 ]
 
-fresher_answers : (rule : SplitRule) (may : Bool) (ok : SplitCount → Bool) (a : SplitCount) (x : Activity) (c : Choice) → IsPairRule rule → IsMonotone ok → IsFresher rule a → IsAtDuty ok x c → HasCover rule may ok a x c
+none_within : (u : Used) → IsWithin none_used u
+none_within u = record { less_driving = omega arith; less_duty = omega arith; less_elapsed = omega arith }
+
+fresher_answers : (rule : SplitRule) (may : Bool) (ok : SplitCount → Bool) (a : SplitCount) (x : Activity) (c : Choice) → IsPairRule rule → IsMonotone rule ok → IsFresher rule a → IsAtDuty ok x c → HasCover rule may ok a x c
 fresher_answers rule may ok a x c good m h d = let l = h.long in let g = good.split.some in record {
   choice = choice (after_duty (drives x) rested_count) false;
-  is = inr (inr (inr (record { work = d.work; some = omega arith; long = l; paired = h.pair; fit = fits_less ok x rested_count d.before m (within_least (drives x) d.before.base) d.fit; is = refl })));
+  is = inr (inr (inr (record { work = d.work; some = omega arith; long = l; paired = h.pair; fit = fits_less rule ok x rested_count d.before m (inr (none_within d.before.base)) d.fit; is = refl })));
   covers = subst (λ s. Covers rule may (after_duty (drives x) rested_count) s) d.is (inr (inl (fresh_no_worse rule may (drives x) d.before)));
 }
 
-undeclared_answers : (rule : SplitRule) (may : Bool) (ok : SplitCount → Bool) (a b : SplitCount) (x : Activity) (c : Choice) → IsMonotone ok → IsNoWorse rule may a b → a.run.long < rule.full → IsUndeclared rule ok b x c → HasCover rule may ok a x c
-undeclared_answers rule may ok a b x c m h l k = record {
+undeclared_answers : (rule : SplitRule) (may : Bool) (ok : SplitCount → Bool) (a b : SplitCount) (x : Activity) (c : Choice) → IsPairRule rule → IsMonotone rule ok → IsNoWorse rule may a b → a.run.long < rule.full → IsUndeclared rule ok b x c → HasCover rule may ok a x c
+undeclared_answers rule may ok a b x c good m h l k = record {
   choice = choice (after_duty (drives x) a) false;
-  is = inr (inl (record { work = k.work; short = l; fit = fits_less ok x a b m (within_duty (drives x) a.base b.base h.less_base) k.fit; is = refl }));
-  covers = subst (λ s. Covers rule may (after_duty (drives x) a) s) (count_is (after_duty (drives x) b) false c k.is) (inr (inl (duty_no_worse rule may (drives x) a.run a b h.less_base h.less_last h.waiting)));
+  is = inr (inl (record { work = k.work; short = l; fit = fits_less rule ok x a b m h.less_base k.fit; is = refl }));
+  covers = subst (λ s. Covers rule may (after_duty (drives x) a) s) (count_is (after_duty (drives x) b) false c k.is) (inr (inl (duty_no_worse rule may (drives x) a.run a b good h.less_base h.less_last h.waiting)));
 }
 
 may_split_from : (rule : SplitRule) (a : SplitCount) → rule.least ≤ a.run.long → a.run.long < rule.full → has_split_berth rule.berth a.run ≡ true → may_pair rule a.waiting a.run ≡ true → may_split rule a ≡ true
@@ -479,14 +554,14 @@ may_split_from rule a least short berth pair =
     and_both (nat_le rule.least a.run.long) (nat_lt a.run.long rule.full && (has_split_berth rule.berth a.run && may_pair rule a.waiting a.run)) (is_upto rule.least a.run.long least)
     (and_both (nat_lt a.run.long rule.full) (has_split_berth rule.berth a.run && may_pair rule a.waiting a.run) (is_below a.run.long rule.full short) (and_both (has_split_berth rule.berth a.run) (may_pair rule a.waiting a.run) berth pair))
 
-split_answers : (rule : SplitRule) (may : Bool) (ok : SplitCount → Bool) (a b : SplitCount) (x : Activity) (c : Choice) → IsMonotone ok → IsNoWorse rule may a b → a.run.long < rule.full → IsAsSplit rule may ok b x c → HasCover rule may ok a x c
-split_answers rule may ok a b x c m h l k =
+split_answers : (rule : SplitRule) (may : Bool) (ok : SplitCount → Bool) (a b : SplitCount) (x : Activity) (c : Choice) → IsPairRule rule → IsMonotone rule ok → IsNoWorse rule may a b → a.run.long < rule.full → IsAsSplit rule may ok b x c → HasCover rule may ok a x c
+split_answers rule may ok a b x c good m h l k =
     let s = split_length rule b k.passes in
     let r = h.run in
     let least = s.0 in
     let some = k.some in
     let d = deep_of rule may a b k.allowed h in
-    let u = within_run a b r h.less_last in
+    let u = no_more_run rule.limits may a b k.allowed r h.less_last in
     record {
       choice = choice (after_duty (drives x) (split_count a)) true;
       is = inr (inr (inl (record {
@@ -494,11 +569,11 @@ split_answers rule may ok a b x c m h l k =
         some = omega arith;
         allowed = k.allowed;
         passes = may_split_from rule a (omega arith) l (split_berth_more rule.berth a.run b.run d s.2) (no_worse_pair rule may a b h s.0 s.3);
-        fit = fits_less ok x (split_count a) (split_count b) m (within_duty (drives x) (without_run a) (without_run b) u) k.fit;
+        fit = fits_less rule ok x (split_count a) (split_count b) m u k.fit;
         is = refl;
       })));
       covers = subst (λ t. Covers rule may (after_duty (drives x) (split_count a)) t) (count_is (after_duty (drives x) (split_count b)) true c k.is)
-          (inr (inl (duty_no_worse rule may (drives x) no_run (split_count a) (split_count b) u (within_same none_used) (omega arith, deep_berth rule.berth a.run b.run d))));
+          (inr (inl (duty_no_worse rule may (drives x) no_run (split_count a) (split_count b) good u (inr (inr (within_same none_used))) (omega arith, deep_berth rule.berth a.run b.run d))));
     }
 
 -- a's run is a full rest that may end as one, where b goes on
@@ -511,15 +586,15 @@ fresher_from rule may a b good va h l k = record {
   ];
 }
 
-no_worse_answers : (rule : SplitRule) (may : Bool) (ok : SplitCount → Bool) (a b : SplitCount) (x : Activity) (c : Choice) → IsPairRule rule → IsMonotone ok → IsCountOf rule may a → IsNoWorse rule may a b → IsUndeclared rule ok b x c ⊎ IsAsSplit rule may ok b x c ⊎ IsAsFull rule ok b x c → HasCover rule may ok a x c
+no_worse_answers : (rule : SplitRule) (may : Bool) (ok : SplitCount → Bool) (a b : SplitCount) (x : Activity) (c : Choice) → IsPairRule rule → IsMonotone rule ok → IsCountOf rule may a → IsNoWorse rule may a b → IsUndeclared rule ok b x c ⊎ IsAsSplit rule may ok b x c ⊎ IsAsFull rule ok b x c → HasCover rule may ok a x c
 no_worse_answers rule may ok a b x c good m va h g = elim g [
   | inl k ↦ elim (cases_lt a.run.long rule.full) [
-    | inl l ↦ undeclared_answers rule may ok a b x c m h l k
+    | inl l ↦ undeclared_answers rule may ok a b x c good m h l k
     | inr l ↦ fresher_answers rule may ok a x c good m (fresher_from rule may a b good va h l (inl k.short)) (duty_of rule may ok b x c (inl k))
   ]
   | inr v ↦ elim v [
     | inl k ↦ elim (cases_lt a.run.long rule.full) [
-      | inl l ↦ split_answers rule may ok a b x c m h l k
+      | inl l ↦ split_answers rule may ok a b x c good m h l k
       | inr l ↦ fresher_answers rule may ok a x c good m (fresher_from rule may a b good va h l (inr (let s = split_length rule b k.passes in (s.0, s.3)))) (duty_of rule may ok b x c (inr (inl k)))
     ]
     | inr k ↦ (let l = k.long in let r = h.run in fresher_answers rule may ok a x c good m (fresher_from rule may a b good va h (omega arith) (inr (let m = good.shorter in omega arith, k.paired))) (duty_of rule may ok b x c (inr (inr k))))
@@ -527,37 +602,34 @@ no_worse_answers rule may ok a b x c good m va h g = elim g [
 ]
 
 -- a ends its run as a split rest, where b goes on without one
-owed_wait : (rule : SplitRule) (r : OpenRun) (u base last : Used) (w : Option WaitingRest) (b : SplitCount) → IsOwed rule r u w b → IsWaitNoWorse rule no_run (Some (as_waiting r)) w base last
-owed_wait rule r u base last None b h = (let x = h.0 in omega arith, h.1, inl refl)
-owed_wait rule r u base last (Some v) b h = (let x = h.0 in omega arith, h.1)
+owed_wait : (rule : SplitRule) (r : OpenRun) (u : Used) (w : Option WaitingRest) (b : SplitCount) → IsOwed rule r u w b → IsWaitNoWorse rule no_run (Some (as_waiting r)) w
+owed_wait rule r u None b h = (let x = h.0 in omega arith, h.1, inl refl)
+owed_wait rule r u (Some v) b h = (let x = h.0 in omega arith, h.1)
 
-owed_within : (rule : SplitRule) (r : OpenRun) (u : Used) (w : Option WaitingRest) (b : SplitCount) → IsOwed rule r u w b → IsWithin u b.base
-owed_within rule r u None b h = h.2
-owed_within rule r u (Some v) b h = h.2
+owed_no_more : (rule : SplitRule) (r : OpenRun) (u : Used) (w : Option WaitingRest) (b : SplitCount) → IsOwed rule r u w b → IsNoMore rule.limits u b.base
+owed_no_more rule r u None b h = h.2
+owed_no_more rule r u (Some v) b h = h.2
 
-none_within : (u : Used) → IsWithin none_used u
-none_within u = record { less_driving = omega arith; less_duty = omega arith; less_elapsed = omega arith }
-
-owing_splits : (rule : SplitRule) (may : Bool) (ok : SplitCount → Bool) (a b : SplitCount) (x : Activity) (c : Choice) → IsMonotone ok → IsOwing rule may a b → 0 < a.run.long → a.run.long < rule.full → IsUndeclared rule ok b x c → HasCover rule may ok a x c
-owing_splits rule may ok a b x c m h some l k = let u = owed_within rule a.run (without_run a) b.waiting b h.owed in record {
+owing_splits : (rule : SplitRule) (may : Bool) (ok : SplitCount → Bool) (a b : SplitCount) (x : Activity) (c : Choice) → IsPairRule rule → IsMonotone rule ok → IsOwing rule may a b → 0 < a.run.long → a.run.long < rule.full → IsUndeclared rule ok b x c → HasCover rule may ok a x c
+owing_splits rule may ok a b x c good m h some l k = let u = owed_no_more rule a.run (without_run a) b.waiting b h.owed in record {
   choice = choice (after_duty (drives x) (split_count a)) true;
   is = inr (inr (inl (record {
     work = k.work;
     some = some;
     allowed = h.allows;
     passes = may_split_from rule a h.least l h.berth h.pair;
-    fit = fits_less ok x (split_count a) b m (within_duty (drives x) (without_run a) b.base u) k.fit;
+    fit = fits_less rule ok x (split_count a) b m u k.fit;
     is = refl;
   })));
   covers = subst (λ t. Covers rule may (after_duty (drives x) (split_count a)) t) (count_is (after_duty (drives x) b) false c k.is)
-      (inr (inl (duty_no_worse rule may (drives x) no_run (split_count a) b u (none_within b.last) (owed_wait rule a.run (without_run a) (without_run a) b.last b.waiting b h.owed))));
+      (inr (inl (duty_no_worse rule may (drives x) no_run (split_count a) b good u (inr (inr (none_within b.last))) (owed_wait rule a.run (without_run a) b.waiting b h.owed))));
 }
 
-owing_answers : (rule : SplitRule) (may : Bool) (ok : SplitCount → Bool) (a b : SplitCount) (x : Activity) (c : Choice) → IsPairRule rule → IsMonotone ok → IsOwing rule may a b → IsUndeclared rule ok b x c ⊎ IsAsSplit rule may ok b x c ⊎ IsAsFull rule ok b x c → HasCover rule may ok a x c
+owing_answers : (rule : SplitRule) (may : Bool) (ok : SplitCount → Bool) (a b : SplitCount) (x : Activity) (c : Choice) → IsPairRule rule → IsMonotone rule ok → IsOwing rule may a b → IsUndeclared rule ok b x c ⊎ IsAsSplit rule may ok b x c ⊎ IsAsFull rule ok b x c → HasCover rule may ok a x c
 owing_answers rule may ok a b x c good m h g = elim (cases_lt a.run.long rule.full) [
   | inr l ↦ fresher_answers rule may ok a x c good m (record { long = l; pair = h.pair }) (duty_of rule may ok b x c g)
   | inl l ↦ elim g [
-    | inl k ↦ owing_splits rule may ok a b x c m h (let z = good.least in let y = h.least in omega arith) l k
+    | inl k ↦ owing_splits rule may ok a b x c good m h (let z = good.least in let y = h.least in omega arith) l k
     | inr v ↦ elim v [
       | inl k ↦ absurd (let s = split_length rule b k.passes in let z = pair_owed rule a.run (without_run a) b.waiting b h.owed s.0 s.3 in let o = good.owed in omega arith)
       | inr k ↦ absurd (let z = run_owed rule a.run (without_run a) b.waiting b h.owed in let o = k.long in omega arith)
@@ -619,20 +691,19 @@ ready_on k (Some w) r x (inr h) g = subst (λ y. ((longer (sleeps y) r).stretch 
   | inr t ↦ inr (berth_on k w r t)
 ])
 
-wait_rest : (rule : SplitRule) (r : OpenRun) (w v : Option WaitingRest) (x : Activity) (base last : Used) → (w ≡ None) ⊎ (x ≡ Berth) → IsWaitNoWorse rule r w v base last → IsWaitNoWorse rule (longer (sleeps x) r) w v (rested base) (rested last)
-wait_rest rule r None None x base last e h = tt
-wait_rest rule r None (Some v) x base last e h = within_rest base last h
-wait_rest rule r (Some w) None x base last e h = (h.0, h.1, ready_on rule.berth (Some w) r x e h.2)
-wait_rest rule r (Some w) (Some v) x base last e h = h
+wait_rest : (rule : SplitRule) (r : OpenRun) (w v : Option WaitingRest) (x : Activity) → (w ≡ None) ⊎ (x ≡ Berth) → IsWaitNoWorse rule r w v → IsWaitNoWorse rule (longer (sleeps x) r) w v
+wait_rest rule r None v x e h = tt
+wait_rest rule r (Some w) None x e h = (h.0, h.1, ready_on rule.berth (Some w) r x e h.2)
+wait_rest rule r (Some w) (Some v) x e h = h
 
-no_worse_on : (rule : SplitRule) (may berth : Bool) (a b : SplitCount) (x : Activity) → IsCountOf rule may a → (may ≡ true → berth ≡ true) → allowed berth x ≡ true → rests x ≡ true → IsNoWorse rule may a b → IsNoWorse rule may (after_rest (sleeps x) a) (after_rest (sleeps x) b)
-no_worse_on rule may berth a b x va mb l r h = record {
+no_worse_on : (rule : SplitRule) (may berth : Bool) (a b : SplitCount) (x : Activity) → IsPairRule rule → IsCountOf rule may a → (may ≡ true → berth ≡ true) → allowed berth x ≡ true → rests x ≡ true → IsNoWorse rule may a b → IsNoWorse rule may (after_rest (sleeps x) a) (after_rest (sleeps x) b)
+no_worse_on rule may berth a b x good va mb l r h = record {
   run = let n = h.run in omega arith;
   deep = deep_on rule may berth a b x va mb l r h.deep;
   keeps = elim h.keeps [ inl e ↦ inl (ap one_more e) | inr u ↦ inr (ready_on rule.berth a.waiting a.run x (rest_kind rule may berth a x va mb l r) u) ];
-  less_base = within_rest a.base b.base h.less_base;
-  less_last = within_rest a.last b.last h.less_last;
-  waiting = wait_rest rule a.run a.waiting b.waiting x a.base b.last (rest_kind rule may berth a x va mb l r) h.waiting;
+  less_base = no_more_rest rule.limits a.base b.base good.limits h.less_base;
+  less_last = last_rest rule.limits may a.last b.last h.less_last;
+  waiting = wait_rest rule a.run a.waiting b.waiting x (rest_kind rule may berth a x va mb l r) h.waiting;
 }
 
 split_berth_on : (k : BerthRule) (r : OpenRun) → has_split_berth k r ≡ true → has_split_berth k (longer true r) ≡ true
@@ -643,17 +714,18 @@ longer_berth : (k : BerthRule) (y : Bool) (r : OpenRun) → IsBerthNoWorse k (as
 longer_berth SevenInOne y r = omega arith
 longer_berth AllOfNext y r = tt
 
-owed_on : (rule : SplitRule) (r : OpenRun) (u e : Used) (w : Option WaitingRest) (b : SplitCount) (y : Bool) → r.long < COUNT_LIMIT → IsWithin e u → e.elapsed ≤ COUNT_LIMIT → IsOwed rule r u w b → IsOwed rule (longer y r) e w (after_rest y b)
-owed_on rule r u e None b y s i l h =
+-- a unit of rest more is in b's counts alone
+used_on : (limits : Option Used) (e u v : Used) → AreLimits limits → IsWithin e u → e.elapsed ≤ COUNT_LIMIT → IsNoMore limits u v → IsNoMore limits e (rested v)
+used_on limits e u v b i l (inl h) = inl (spent_rest limits v b h)
+used_on limits e u v b i l (inr h) = let n = within_over e u v i h in let j = n.less_elapsed in inr (record { less_driving = n.less_driving; less_duty = n.less_duty; less_elapsed = omega arith })
+
+owed_on : (rule : SplitRule) (r : OpenRun) (u e : Used) (w : Option WaitingRest) (b : SplitCount) (y : Bool) → IsPairRule rule → r.long < COUNT_LIMIT → IsWithin e u → e.elapsed ≤ COUNT_LIMIT → IsOwed rule r u w b → IsOwed rule (longer y r) e w (after_rest y b)
+owed_on rule r u e None b y good s i l h =
     let a = h.0 in
-    let n = within_over e u b.base i h.2 in
-    let j = n.less_elapsed in
-    (omega arith, enough_over rule.berth (as_waiting (longer y r)) (as_waiting r) (longer_berth rule.berth y r) h.1, record { less_driving = n.less_driving; less_duty = n.less_duty; less_elapsed = omega arith })
-owed_on rule r u e (Some v) b y s i l h =
+    (omega arith, enough_over rule.berth (as_waiting (longer y r)) (as_waiting r) (longer_berth rule.berth y r) h.1, used_on rule.limits e u b.base good.limits i l h.2)
+owed_on rule r u e (Some v) b y good s i l h =
     let a = h.0 in
-    let n = within_over e u b.base i h.2 in
-    let j = n.less_elapsed in
-    (omega arith, berth_over rule.berth (as_waiting (longer y r)) (as_waiting r) v (longer_berth rule.berth y r) h.1, record { less_driving = n.less_driving; less_duty = n.less_duty; less_elapsed = omega arith })
+    (omega arith, berth_over rule.berth (as_waiting (longer y r)) (as_waiting r) v (longer_berth rule.berth y r) h.1, used_on rule.limits e u b.base good.limits i l h.2)
 
 -- what is used without the run is no more for a longer run
 without_on : (a : SplitCount) (y : Bool) → IsSplitCount a → a.run.long < COUNT_LIMIT → IsWithin (without_run (after_rest y a)) (without_run a) × ((without_run (after_rest y a)).elapsed ≤ COUNT_LIMIT)
@@ -674,22 +746,22 @@ owing_on rule may berth a b x good va mb l r h =
             least = more_least a.run.long rule.least o.bounded h.least;
             berth = subst (λ y. has_split_berth rule.berth (longer (sleeps y) a.run) ≡ true) (sym e) (split_berth_on rule.berth a.run h.berth);
             pair = pair;
-            owed = owed_on rule a.run (without_run a) (without_run (after_rest (sleeps x) a)) b.waiting b (sleeps x) (omega arith) w.0 w.1 h.owed;
+            owed = owed_on rule a.run (without_run a) (without_run (after_rest (sleeps x) a)) b.waiting b (sleeps x) good (omega arith) w.0 w.1 h.owed;
           })))
     ]
 
 pub covers_on : (rule : SplitRule) (may berth : Bool) (a b : SplitCount) (x : Activity) → IsPairRule rule → IsCountOf rule may a → (may ≡ true → berth ≡ true) → allowed berth x ≡ true → rests x ≡ true → Covers rule may a b → Covers rule may (after_rest (sleeps x) a) (after_rest (sleeps x) b)
 covers_on rule may berth a b x good va mb l r (inl h) = inl (fresher_on rule may berth a x va mb l r h)
-covers_on rule may berth a b x good va mb l r (inr (inl h)) = inr (inl (no_worse_on rule may berth a b x va mb l r h))
+covers_on rule may berth a b x good va mb l r (inr (inl h)) = inr (inl (no_worse_on rule may berth a b x good va mb l r h))
 covers_on rule may berth a b x good va mb l r (inr (inr h)) = owing_on rule may berth a b x good va mb l r h
 
-duty_answers : (rule : SplitRule) (may : Bool) (ok : SplitCount → Bool) (a b : SplitCount) (x : Activity) (c : Choice) → IsPairRule rule → IsMonotone ok → IsCountOf rule may a → Covers rule may a b → IsUndeclared rule ok b x c ⊎ IsAsSplit rule may ok b x c ⊎ IsAsFull rule ok b x c → HasCover rule may ok a x c
+duty_answers : (rule : SplitRule) (may : Bool) (ok : SplitCount → Bool) (a b : SplitCount) (x : Activity) (c : Choice) → IsPairRule rule → IsMonotone rule ok → IsCountOf rule may a → Covers rule may a b → IsUndeclared rule ok b x c ⊎ IsAsSplit rule may ok b x c ⊎ IsAsFull rule ok b x c → HasCover rule may ok a x c
 duty_answers rule may ok a b x c good m va (inl h) g = fresher_answers rule may ok a x c good m h (duty_of rule may ok b x c g)
 duty_answers rule may ok a b x c good m va (inr (inl h)) g = no_worse_answers rule may ok a b x c good m va h g
 duty_answers rule may ok a b x c good m va (inr (inr h)) g = owing_answers rule may ok a b x c good m h g
 
 -- Where a covers b, each choice of b by an activity that a schedule may hold is covered by one of a by the same activity.
-pub covers_simulates : (rule : SplitRule) (may berth : Bool) (ok : SplitCount → Bool) (a b : SplitCount) (x : Activity) (c : Choice) → IsPairRule rule → IsMonotone ok → IsCountOf rule may a → (may ≡ true → berth ≡ true) → allowed berth x ≡ true → Covers rule may a b → IsChoice rule may ok b x c → HasCover rule may ok a x c
+pub covers_simulates : (rule : SplitRule) (may berth : Bool) (ok : SplitCount → Bool) (a b : SplitCount) (x : Activity) (c : Choice) → IsPairRule rule → IsMonotone rule ok → IsCountOf rule may a → (may ≡ true → berth ≡ true) → allowed berth x ≡ true → Covers rule may a b → IsChoice rule may ok b x c → HasCover rule may ok a x c
 covers_simulates rule may berth ok a b x c good m va mb l h g = elim g [
   | inl k ↦ record {
     choice = choice (after_rest (sleeps x) a) false;
@@ -762,9 +834,6 @@ ahead_deep rule may berth s AllOfNext vs mb (inr e) = elim (or_cases (not may) (
   | inr u ↦ inr (e.0, upto rule.full s.run.long u)
 ]
 
-wait_idle : (rule : SplitRule) (r : OpenRun) (w : Option WaitingRest) (d : Bool) (base last : Used) → IsWaitNoWorse rule r w w (rested base) (worked d last)
-wait_idle rule r w d base last = wait_same rule r w (rested base) (worked d last)
-
 within_worked : (d : Bool) (u : Used) → IsUsed u → IsWithin u (worked d u)
 within_worked true u h = let a = h.works in let b = h.bounded_duty in let c = h.bounded in record { less_driving = omega arith; less_duty = omega arith; less_elapsed = omega arith }
 within_worked false u h = let b = h.bounded_duty in let c = h.bounded in record { less_driving = omega arith; less_duty = omega arith; less_elapsed = omega arith }
@@ -781,9 +850,9 @@ ahead_undeclared rule may berth ok s x c vs mb h k =
         run = omega arith;
         deep = d;
         keeps = inr (ready_on rule.berth s.waiting s.run y (rest_kind rule may berth s y vs mb r.1 r.0) (elim cases [ inl e ↦ ready_all rule.berth s.waiting s.run e | inr e ↦ ready_none rule.berth s.waiting s.run e.0 ]));
-        less_base = within_idle (drives x) s.base vs.is_count.is_base;
-        less_last = within_idle (drives x) s.last vs.is_count.is_last;
-        waiting = wait_idle rule (longer (sleeps y) s.run) s.waiting (drives x) s.base s.last;
+        less_base = inr (within_idle (drives x) s.base vs.is_count.is_base);
+        less_last = inr (inr (within_idle (drives x) s.last vs.is_count.is_last));
+        waiting = wait_same rule (longer (sleeps y) s.run) s.waiting;
       }))
     ])
 
@@ -802,7 +871,7 @@ ahead_split rule may berth ok s x c good vs mb k =
       least = more_least s.run.long rule.least o.bounded m.0;
       berth = subst (λ z. has_split_berth rule.berth (longer (sleeps z) s.run) ≡ true) (sym e) (split_berth_on rule.berth s.run m.2);
       pair = pair_on rule s.waiting s.run y o (inr e) m.3;
-      owed = (omega arith, longer_berth rule.berth (sleeps y) s.run, within_over (without_run (after_rest (sleeps y) s)) (without_run s) (worked (drives x) (without_run s)) w.0 (within_worked (drives x) (without_run s) (split_kept s vs.is_count).is_base));
+      owed = (omega arith, longer_berth rule.berth (sleeps y) s.run, inr (within_over (without_run (after_rest (sleeps y) s)) (without_run s) (worked (drives x) (without_run s)) w.0 (within_worked (drives x) (without_run s) (split_kept s vs.is_count).is_base)));
     })))
 
 ahead_full : (rule : SplitRule) (may berth : Bool) (ok : SplitCount → Bool) (s : SplitCount) (x : Activity) (c : Choice) → IsCountOf rule may s → (may ≡ true → berth ≡ true) → IsAsFull rule ok s x c → Covers rule may (after_rest (sleeps (own_rest berth)) s) c.count
@@ -822,7 +891,7 @@ ahead_covers rule may berth ok s x c good vs mb h l g = elim g [
 
 -- # Of the lists of choices
 
-pub choices_cover : (rule : SplitRule) (may berth : Bool) (ok : SplitCount → Bool) (a b : SplitCount) (x : Activity) (c : Choice) → IsPairRule rule → IsMonotone ok → IsCountOf rule may a → (may ≡ true → berth ≡ true) → allowed berth x ≡ true → Covers rule may a b → Contains (choices rule may ok b x) c →
+pub choices_cover : (rule : SplitRule) (may berth : Bool) (ok : SplitCount → Bool) (a b : SplitCount) (x : Activity) (c : Choice) → IsPairRule rule → IsMonotone rule ok → IsCountOf rule may a → (may ≡ true → berth ≡ true) → allowed berth x ≡ true → Covers rule may a b → Contains (choices rule may ok b x) c →
     (d : Choice) × Contains (choices rule may ok a x) d × Covers rule may d.count c.count
 choices_cover rule may berth ok a b x c good m va mb l h g = let k = covers_simulates rule may berth ok a b x c good m va mb l h (choice_cases rule may ok b x c good.split.some g) in (k.choice, is_choice rule may ok a x k.choice k.is, k.covers)
 
