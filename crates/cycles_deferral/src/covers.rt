@@ -1,10 +1,10 @@
 //! Days that may stand for others.
 ghost use Rattle.std.specs.Prelude.{◌≡◌, ◌+◌, ◌<◌, ◌↔◌, true};
 ghost use Rattle.cycles_deferral.specs.DayMachine.{IsCanadaDays, days_begun};
-ghost use Rattle.cycles_deferral.specs.DayCovers.{LosesNoMore, YesterdayCovers, EndsAsWell, DaysCover};
+ghost use Rattle.cycles_deferral.specs.DayCovers.{LosesNoMore, YesterdayCovers, IsMet, RestsAsLong, EndsAsWell, DaysCover};
 
-use crate::days::{CanadaDays, DayCount};
-use duty_core::{CA_LOST_LIMIT, RestWay};
+use crate::days::{CanadaDays, DayCount, needed};
+use duty_core::{CA_BOTH_LOST_LIMIT, CA_LOST_LIMIT, RestWay};
 
 impl CanadaDays {
     /// Whether these days may stand for `other`, those of another history of the same length and
@@ -30,12 +30,13 @@ impl CanadaDays {
         let same = same_way(self.way(), other.way()) && self.minute() == other.minute();
         let rested = other.rest() <= self.rest();
         let today = self.today().loses_no_more(other.today());
-        let ends = self.before() <= CA_LOST_LIMIT || self.ends_as_well(other);
+        let ends = self.before() <= CA_LOST_LIMIT || self.is_met() || self.ends_as_well(other);
         same && rested && today && self.yesterday_covers(other) && ends
     }
 
     /// Whether yesterday asks nothing any more, since it loses too little for a deferral and cannot
-    /// lose more, or loses no more than that of `other`, with no shorter longest rest of today.
+    /// lose more; or loses no more than that of `other`, and today has had all the rest that it may
+    /// need, or no shorter longest rest.
     fn yesterday_covers(self, other: CanadaDays) -> bool
         requires good { IsCanadaDays self }
         requires other_good { IsCanadaDays other }
@@ -43,8 +44,21 @@ impl CanadaDays {
     {
         let yesterday = self.yesterday();
         let kept = yesterday.lost + yesterday.short <= CA_LOST_LIMIT;
-        let longer = other.today().longest <= self.today().longest;
-        kept || (yesterday.loses_no_more(other.yesterday()) && longer)
+        let longest = self.today().longest;
+        let had = needed(yesterday.lost + yesterday.short) <= longest;
+        let rested = had || other.today().longest <= longest;
+        kept || (yesterday.loses_no_more(other.yesterday()) && rested)
+    }
+
+    /// Whether a deferral from the day before yesterday is met already: yesterday has had all the
+    /// rest that it needs, and cannot lose too much with that day any more.
+    fn is_met(self) -> bool
+        requires good { IsCanadaDays self }
+        ensures { (result ≡ true) ↔ IsMet self }
+    {
+        let yesterday = self.yesterday();
+        let both = self.before() + (yesterday.lost + yesterday.short);
+        needed(self.before()) <= yesterday.longest && both <= CA_BOTH_LOST_LIMIT
     }
 
     /// Whether a deferral from the day before yesterday ends as well.
@@ -53,10 +67,17 @@ impl CanadaDays {
         requires other_good { IsCanadaDays other }
         ensures { (result ≡ true) ↔ EndsAsWell self other }
     {
-        let longer = other.yesterday().longest <= self.yesterday().longest;
-        let reaches = !other.reaches() || self.reaches();
+        let rested = needed(self.before()) <= self.yesterday().longest;
         let no_more = self.yesterday().loses_no_more(other.yesterday());
-        self.before() <= other.before() && no_more && longer && reaches
+        self.before() <= other.before() && no_more && (rested || self.rests_as_long(other))
+    }
+
+    /// Whether the longest rest of yesterday is no shorter, and grows on where that of `other` does.
+    fn rests_as_long(self, other: CanadaDays) -> bool
+        ensures { (result ≡ true) ↔ RestsAsLong self other }
+    {
+        let longer = other.yesterday().longest <= self.yesterday().longest;
+        longer && (!other.reaches() || self.reaches())
     }
 }
 

@@ -410,7 +410,7 @@ fn lost_limit(way: RestWay) -> u32
 
 /// The rest that is needed in the second day, where so many minutes of the first one are lost: a
 /// full rest, and what was deferred (SOR/2005-313, section 16).
-fn needed(lost: u32) -> u32
+pub(crate) fn needed(lost: u32) -> u32
     requires { lost ≤ DAY_MINUTES }
     ensures { result ≡ needed lost }
 {

@@ -261,6 +261,29 @@ fn yesterday_is_compared_only_where_it_lost_too_much(rt: HostRuntime) {
     );
 }
 
+#[test]
+fn a_deferral_that_is_met_is_compared_no_more(rt: HostRuntime) {
+    // 900 minutes are lost of the first day, so nine hours of rest are needed in the second one.
+    let longer = [0, 900, 580, 20];
+    let enough = [0, 900, 541, 1, 58];
+    let too_short = [0, 900, 539, 1, 60];
+    assert_eq!(rt;
+        stands(enough.as_slice(), longer.as_slice(), false),
+        Some(true)
+    );
+    assert_eq!(rt;
+        stands(too_short.as_slice(), longer.as_slice(), false),
+        Some(false)
+    );
+    // An hour into the third day the second one has had them, and 1,600 minutes are lost of both.
+    let fewer = [0, 900, 541, 100, 1399];
+    let more = [0, 900, 541, 700, 799];
+    assert_eq!(rt;
+        stands(more.as_slice(), fewer.as_slice(), false),
+        Some(true)
+    );
+}
+
 /// The counts of a cycle after so many minutes of an activity, all in one day.
 fn counted(count: CycleCount, act: Activity, n: u32) -> Option<CycleCount>
     requires good { IsCycleCount count }

@@ -9,7 +9,7 @@ use Rattle.duty_core.specs.declared.mark.Mark.{Mark}
 use Rattle.duty_core.specs.declared.params.RestWay.{RestWay}
 use Rattle.duty_core.specs.declared.params.RestWay.TheVariants.{Split, Defer}
 use Rattle.duty_core.specs.declared.params.Params.TheVariants.{Canada}
-use Rattle.duty_core.specs.declared.limits.TheConstants.{CA_LOST_LIMIT, CA_DAY_DRIVING_LIMIT, CA_DAY_DUTY_LIMIT}
+use Rattle.duty_core.specs.declared.limits.TheConstants.{CA_LOST_LIMIT, CA_BOTH_LOST_LIMIT, CA_DAY_DRIVING_LIMIT, CA_DAY_DUTY_LIMIT}
 use Rattle.duty_core.specs.Params.{allows}
 use Rattle.duty_core.specs.CaCycle.{cycle_limit}
 use Rattle.day_sums.specs.Sums.{LeavesNoLess, leaves_no_less}
@@ -28,8 +28,8 @@ use Rattle.sleeper_split.specs.Laws.Limits.{and_left, and_right, and_both}
 use Rattle.cycles_deferral.specs.declared.days.DayCount.{DayCount}
 use Rattle.cycles_deferral.specs.declared.days.CanadaDays.{CanadaDays}
 use Rattle.cycles_deferral.specs.declared.cycle.CycleCount.{CycleCount}
-use Rattle.cycles_deferral.specs.DayMachine.{days_begun}
-use Rattle.cycles_deferral.specs.DayCovers.{LosesNoMore, YesterdayCovers, EndsAsWell, DaysCover}
+use Rattle.cycles_deferral.specs.DayMachine.{needed, days_begun}
+use Rattle.cycles_deferral.specs.DayCovers.{LosesNoMore, YesterdayCovers, IsMet, RestsAsLong, EndsAsWell, EndsCover, DaysCover}
 use Rattle.cycles_deferral.specs.Laws.DayCovers.{days_cover_self, days_cover_over, cover_begun, days_simulate}
 use Rattle.cycles_deferral.specs.CycleCovers.{CycleCovers}
 use Rattle.cycles_deferral.specs.Laws.CycleCovers.{cycle_covers_self, cycle_covers_over, cycle_simulates}
@@ -39,7 +39,7 @@ use Rattle.canada_rules.specs.declared.state.CanadaState.{CanadaState}
 use Rattle.canada_rules.specs.Machine.{ca_fits, ca_may, begins_day, ca_date, day_begun, day_more, day_after, day_keeps, calendar_made, ca_next, ca_nexts, IsCanadaState}
 use Rattle.canada_rules.specs.Laws.CalendarSteps.{after_means, means_after}
 use Rattle.canada_rules.specs.Laws.Paths.{next_means, means_next}
-use Rattle.canada_rules.specs.Covers.{day_covers, same_way, loses_no_more, yesterday_covers, ends_as_well, days_cover, cycle_covers, covers_state}
+use Rattle.canada_rules.specs.Covers.{day_covers, same_way, loses_no_more, has_rest_today, yesterday_covers, has_rest_yesterday, is_met, rests_as_long, ends_as_well, ends_cover, days_cover, cycle_covers, covers_state}
 
 -- # What the tests mean
 
@@ -105,20 +105,31 @@ no_more_from a b h = and_both (nat_le a.lost b.lost) (nat_le (a.lost + a.short) 
 yesterday_means : (a b : CanadaDays) → yesterday_covers a b ≡ true → YesterdayCovers a b
 yesterday_means a b h =
     let n : Bool = loses_no_more a.yesterday b.yesterday in
+    let t : Bool = has_rest_today a in
     let l : Bool = nat_le b.today.longest a.today.longest in
-    elim (or_cases (nat_le (a.yesterday.lost + a.yesterday.short) CA_LOST_LIMIT) (n && l) h) [
+    elim (or_cases (nat_le (a.yesterday.lost + a.yesterday.short) CA_LOST_LIMIT) (n && (t || l)) h) [
       | inl e ↦ inl (upto (a.yesterday.lost + a.yesterday.short) CA_LOST_LIMIT e)
-      | inr e ↦ inr (no_more_means a.yesterday b.yesterday (and_left n l e), upto b.today.longest a.today.longest (and_right n l e))
+      | inr e ↦ inr (
+        no_more_means a.yesterday b.yesterday (and_left n (t || l) e),
+        elim (or_cases t l (and_right n (t || l) e)) [
+          | inl f ↦ inl (upto (needed (a.yesterday.lost + a.yesterday.short)) a.today.longest f)
+          | inr f ↦ inr (upto b.today.longest a.today.longest f)
+        ],
+      )
     ]
 
 yesterday_from : (a b : CanadaDays) → YesterdayCovers a b → yesterday_covers a b ≡ true
 yesterday_from a b h =
     let k : Bool = nat_le (a.yesterday.lost + a.yesterday.short) CA_LOST_LIMIT in
     let n : Bool = loses_no_more a.yesterday b.yesterday in
+    let t : Bool = has_rest_today a in
     let l : Bool = nat_le b.today.longest a.today.longest in
     elim h [
-      | inl e ↦ or_left k (n && l) (is_upto (a.yesterday.lost + a.yesterday.short) CA_LOST_LIMIT e)
-      | inr e ↦ or_right k (n && l) (and_both n l (no_more_from a.yesterday b.yesterday e.0) (is_upto b.today.longest a.today.longest e.1))
+      | inl e ↦ or_left k (n && (t || l)) (is_upto (a.yesterday.lost + a.yesterday.short) CA_LOST_LIMIT e)
+      | inr e ↦ or_right k (n && (t || l)) (and_both n (t || l) (no_more_from a.yesterday b.yesterday e.0) (elim e.1 [
+        | inl f ↦ or_left t l (is_upto (needed (a.yesterday.lost + a.yesterday.short)) a.today.longest f)
+        | inr f ↦ or_right t l (is_upto b.today.longest a.today.longest f)
+      ]))
     ]
 
 reaches_means : (a b : Bool) → (not b || a) ≡ true → b ≡ true → a ≡ true
@@ -132,34 +143,64 @@ reaches_from true false h = refl
 reaches_from false true h = h refl
 reaches_from false false h = refl
 
-ends_means : (a b : CanadaDays) → ends_as_well a b ≡ true → (a.before ≤ CA_LOST_LIMIT) ⊎ EndsAsWell a b
-ends_means a b h =
-    let r : Bool = not b.reaches || a.reaches in
-    let l : Bool = nat_le b.yesterday.longest a.yesterday.longest in
-    let n : Bool = loses_no_more a.yesterday b.yesterday in
-    elim (or_cases (nat_le a.before CA_LOST_LIMIT) (nat_le a.before b.before && (n && (l && r))) h) [
-      | inl e ↦ inl (upto a.before CA_LOST_LIMIT e)
-      | inr e ↦ (let f = and_right (nat_le a.before b.before) (n && (l && r)) e in let g = and_right n (l && r) f in inr (record {
-        fewer = upto a.before b.before (and_left (nat_le a.before b.before) (n && (l && r)) e);
-        yesterday = no_more_means a.yesterday b.yesterday (and_left n (l && r) f);
-        longer = upto b.yesterday.longest a.yesterday.longest (and_left l r g);
-        reaches = reaches_means a.reaches b.reaches (and_right l r g);
-      }))
-    ]
+met_means : (a : CanadaDays) → is_met a ≡ true → IsMet a
+met_means a h =
+    let r : Bool = has_rest_yesterday a in
+    let m : Bool = nat_le (a.before + (a.yesterday.lost + a.yesterday.short)) CA_BOTH_LOST_LIMIT in
+    record { rest = upto (needed a.before) a.yesterday.longest (and_left r m h); both = upto (a.before + (a.yesterday.lost + a.yesterday.short)) CA_BOTH_LOST_LIMIT (and_right r m h) }
 
-ends_from : (a b : CanadaDays) → (a.before ≤ CA_LOST_LIMIT) ⊎ EndsAsWell a b → ends_as_well a b ≡ true
-ends_from a b h =
+met_from : (a : CanadaDays) → IsMet a → is_met a ≡ true
+met_from a h =
+    let r : Bool = has_rest_yesterday a in
+    let m : Bool = nat_le (a.before + (a.yesterday.lost + a.yesterday.short)) CA_BOTH_LOST_LIMIT in
+    and_both r m (is_upto (needed a.before) a.yesterday.longest h.rest) (is_upto (a.before + (a.yesterday.lost + a.yesterday.short)) CA_BOTH_LOST_LIMIT h.both)
+
+as_long_means : (a b : CanadaDays) → rests_as_long a b ≡ true → RestsAsLong a b
+as_long_means a b h =
     let r : Bool = not b.reaches || a.reaches in
     let l : Bool = nat_le b.yesterday.longest a.yesterday.longest in
-    let n : Bool = loses_no_more a.yesterday b.yesterday in
+    record { longer = upto b.yesterday.longest a.yesterday.longest (and_left l r h); reaches = reaches_means a.reaches b.reaches (and_right l r h) }
+
+as_long_from : (a b : CanadaDays) → RestsAsLong a b → rests_as_long a b ≡ true
+as_long_from a b h =
+    let r : Bool = not b.reaches || a.reaches in
+    let l : Bool = nat_le b.yesterday.longest a.yesterday.longest in
+    and_both l r (is_upto b.yesterday.longest a.yesterday.longest h.longer) (reaches_from a.reaches b.reaches h.reaches)
+
+as_well_means : (a b : CanadaDays) → ends_as_well a b ≡ true → EndsAsWell a b
+as_well_means a b h =
     let f : Bool = nat_le a.before b.before in
-    elim h [
-      | inl e ↦ or_left (nat_le a.before CA_LOST_LIMIT) (f && (n && (l && r))) (is_upto a.before CA_LOST_LIMIT e)
-      | inr e ↦ or_right (nat_le a.before CA_LOST_LIMIT) (f && (n && (l && r)))
-          (and_both f (n && (l && r)) (is_upto a.before b.before e.fewer)
-          (and_both n (l && r) (no_more_from a.yesterday b.yesterday e.yesterday)
-          (and_both l r (is_upto b.yesterday.longest a.yesterday.longest e.longer) (reaches_from a.reaches b.reaches e.reaches))))
-    ]
+    let n : Bool = loses_no_more a.yesterday b.yesterday in
+    let r : Bool = has_rest_yesterday a in
+    let l : Bool = rests_as_long a b in
+    let g = and_right f (n && (r || l)) h in
+    record {
+      fewer = upto a.before b.before (and_left f (n && (r || l)) h);
+      yesterday = no_more_means a.yesterday b.yesterday (and_left n (r || l) g);
+      rest = elim (or_cases r l (and_right n (r || l) g)) [ inl e ↦ inl (upto (needed a.before) a.yesterday.longest e) | inr e ↦ inr (as_long_means a b e) ];
+    }
+
+as_well_from : (a b : CanadaDays) → EndsAsWell a b → ends_as_well a b ≡ true
+as_well_from a b h =
+    let f : Bool = nat_le a.before b.before in
+    let n : Bool = loses_no_more a.yesterday b.yesterday in
+    let r : Bool = has_rest_yesterday a in
+    let l : Bool = rests_as_long a b in
+    and_both f (n && (r || l)) (is_upto a.before b.before h.fewer)
+    (and_both n (r || l) (no_more_from a.yesterday b.yesterday h.yesterday)
+    (elim h.rest [ inl e ↦ or_left r l (is_upto (needed a.before) a.yesterday.longest e) | inr e ↦ or_right r l (as_long_from a b e) ]))
+
+ends_mean : (a b : CanadaDays) → ends_cover a b ≡ true → EndsCover a b
+ends_mean a b h = elim (or_cases (nat_le a.before CA_LOST_LIMIT) (is_met a || ends_as_well a b) h) [
+  | inl e ↦ inl (upto a.before CA_LOST_LIMIT e)
+  | inr e ↦ inr (elim (or_cases (is_met a) (ends_as_well a b) e) [ inl f ↦ inl (met_means a f) | inr f ↦ inr (as_well_means a b f) ])
+]
+
+ends_from : (a b : CanadaDays) → EndsCover a b → ends_cover a b ≡ true
+ends_from a b h = elim h [
+  | inl e ↦ or_left (nat_le a.before CA_LOST_LIMIT) (is_met a || ends_as_well a b) (is_upto a.before CA_LOST_LIMIT e)
+  | inr e ↦ or_right (nat_le a.before CA_LOST_LIMIT) (is_met a || ends_as_well a b) (elim e [ inl f ↦ or_left (is_met a) (ends_as_well a b) (met_from a f) | inr f ↦ or_right (is_met a) (ends_as_well a b) (as_well_from a b f) ])
+]
 
 -- The test of days says whether they may stand for the others.
 pub days_decide : (a b : CanadaDays) → (days_cover a b ≡ true) ↔ DaysCover a b
@@ -169,7 +210,7 @@ days_decide a b =
     let r : Bool = nat_le b.rest a.rest in
     let t : Bool = loses_no_more a.today b.today in
     let y : Bool = yesterday_covers a b in
-    let e : Bool = ends_as_well a b in (
+    let e : Bool = ends_cover a b in (
       (λ h.
           let h1 = and_right w (m && (r && (t && (y && e)))) h in
           let h2 = and_right m (r && (t && (y && e))) h1 in
@@ -181,7 +222,7 @@ days_decide a b =
             rested = upto b.rest a.rest (and_left r (t && (y && e)) h2);
             today_no_more = no_more_means a.today b.today (and_left t (y && e) h3);
             yesterday = yesterday_means a b (and_left y e h4);
-            ends = ends_means a b (and_right y e h4);
+            ends = ends_mean a b (and_right y e h4);
           }),
       (λ h.
           and_both w (m && (r && (t && (y && e)))) (subst (λ v. same_way a.way v ≡ true) h.same_way (way_itself a.way))

@@ -187,7 +187,7 @@ begun_better day days p q u v h g w m b =
       today_no_more = no_more_today day p q u v b.same_length h.tracks g.tracks b.today;
       yesterday = elim (cases_lt CA_LOST_LIMIT (u.yesterday.lost + u.yesterday.short)) [
         | inr le ↦ inl le
-        | inl lt ↦ inr (y, rest_today day days p q d u v b.same_length h g r (all_of_today day days q d j v e g (omega arith)))
+        | inl lt ↦ inr (y, inr (rest_today day days p q d u v b.same_length h g r (all_of_today day days q d j v e g (omega arith))))
       ];
       ends = inl (omega arith);
     }

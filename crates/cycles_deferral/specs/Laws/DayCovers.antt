@@ -13,7 +13,7 @@ use Rattle.cycles_deferral.specs.declared.days.DayCount.{DayCount}
 use Rattle.cycles_deferral.specs.declared.days.CanadaDays.{CanadaDays}
 use Rattle.cycles_deferral.specs.DayMachine.{days_turned, days_begun, rest_on, days_rested, worked_day, days_worked, keeps_split, keeps_defer, keeps_way, keeps_days, mark_between, days_after}
 use Rattle.cycles_deferral.specs.Laws.DeferLaws.{passes_means, passes_from}
-use Rattle.cycles_deferral.specs.DayCovers.{LosesNoMore, YesterdayCovers, DaysCover, CoversOn}
+use Rattle.cycles_deferral.specs.DayCovers.{LosesNoMore, YesterdayCovers, IsMet, EndsAsWell, EndsCover, DaysCover, CoversOn}
 
 -- # An order
 
@@ -26,8 +26,8 @@ days_cover_self a = record {
   same_minute = refl;
   rested = omega arith;
   today_no_more = record { at_rest = omega arith; at_duty = omega arith };
-  yesterday = inr (no_more_self a.yesterday, omega arith);
-  ends = inr (record { fewer = omega arith; yesterday = no_more_self a.yesterday; longer = omega arith; reaches = λ e. e });
+  yesterday = inr (no_more_self a.yesterday, inr (omega arith));
+  ends = inr (inr (record { fewer = omega arith; yesterday = no_more_self a.yesterday; rest = inr (record { longer = omega arith; reaches = λ e. e }) }));
 }
 
 no_more_over : (a b c : DayCount) → LosesNoMore a b → LosesNoMore b c → LosesNoMore a c
@@ -38,6 +38,46 @@ no_more_over a b c h g =
     let w = g.at_duty in
     record { at_rest = omega arith; at_duty = omega arith }
 
+yesterday_over : (a b c : CanadaDays) → YesterdayCovers a b → YesterdayCovers b c → YesterdayCovers a c
+yesterday_over a b c (inl h) g = inl h
+yesterday_over a b c (inr h) (inl g) = inl (let z = h.0.at_duty in omega arith)
+yesterday_over a b c (inr h) (inr g) = inr (
+  no_more_over a.yesterday b.yesterday c.yesterday h.0 g.0,
+  elim h.1 [
+    | inl p ↦ inl p
+    | inr p ↦ elim g.1 [ inl q ↦ inl (let z = h.0.at_duty in omega arith) | inr q ↦ inr (omega arith) ]
+  ],
+)
+
+-- where the other's deferral is met already, so is this one, or it defers nothing
+met_over : (a b : CanadaDays) → EndsAsWell a b → IsMet b → IsMet a
+met_over a b h g =
+    let f = h.fewer in
+    let d = h.yesterday.at_duty in
+    let m = g.rest in
+    let n = g.both in
+    record { rest = elim h.rest [ inl r ↦ r | inr r ↦ (let o = r.longer in omega arith) ]; both = omega arith }
+
+ends_over : (a b c : CanadaDays) → EndsCover a b → EndsCover b c → EndsCover a c
+ends_over a b c (inl h) g = inl h
+ends_over a b c (inr (inl h)) g = inr (inl h)
+ends_over a b c (inr (inr h)) (inl g) = inl (let f = h.fewer in omega arith)
+ends_over a b c (inr (inr h)) (inr (inl g)) = inr (inl (met_over a b h g))
+ends_over a b c (inr (inr h)) (inr (inr g)) =
+    let f = h.fewer in
+    let k = g.fewer in
+    inr (inr (record {
+      fewer = omega arith;
+      yesterday = no_more_over a.yesterday b.yesterday c.yesterday h.yesterday g.yesterday;
+      rest = elim h.rest [
+        | inl p ↦ inl p
+        | inr p ↦ (let o = p.longer in elim g.rest [
+          | inl q ↦ inl (omega arith)
+          | inr q ↦ inr (record { longer = (let z = q.longer in omega arith); reaches = λ e. p.reaches (q.reaches e) })
+        ])
+      ];
+    }))
+
 pub days_cover_over : (a b c : CanadaDays) → DaysCover a b → DaysCover b c → DaysCover a c
 days_cover_over a b c h g =
     let x = h.rested in
@@ -47,31 +87,8 @@ days_cover_over a b c h g =
       same_minute = h.same_minute ∙ g.same_minute;
       rested = omega arith;
       today_no_more = no_more_over a.today b.today c.today h.today_no_more g.today_no_more;
-      yesterday = elim h.yesterday [
-        | inl l ↦ inl l
-        | inr l ↦ elim g.yesterday [
-          | inl m ↦ inl (let z = l.0.at_duty in omega arith)
-          | inr m ↦ inr (no_more_over a.yesterday b.yesterday c.yesterday l.0 m.0, (let p = l.1 in let q = m.1 in omega arith))
-        ]
-      ];
-      ends = elim h.ends [
-        | inl l ↦ inl l
-        | inr l ↦ (
-            let f = l.fewer in
-            let o = l.longer in
-            elim g.ends [
-              | inl m ↦ inl (omega arith)
-              | inr m ↦ (
-                  let fm = m.fewer in
-                  let om = m.longer in
-                  inr (record {
-                    fewer = omega arith;
-                    yesterday = no_more_over a.yesterday b.yesterday c.yesterday l.yesterday m.yesterday;
-                    longer = omega arith;
-                    reaches = λ e. l.reaches (m.reaches e);
-                  }))
-            ])
-      ];
+      yesterday = yesterday_over a b c h.yesterday g.yesterday;
+      ends = ends_over a b c h.ends g.ends;
     }
 
 -- # A new day
@@ -84,15 +101,17 @@ cover_turned a b h =
       same_minute = refl;
       rested = h.rested;
       today_no_more = record { at_rest = omega arith; at_duty = omega arith };
-      yesterday = inr (h.today_no_more, omega arith);
+      yesterday = inr (h.today_no_more, inr (omega arith));
       ends = elim h.yesterday [
         | inl l ↦ inl (omega arith)
-        | inr l ↦ inr (record {
+        | inr l ↦ inr (inr (record {
           fewer = l.0.at_rest;
           yesterday = h.today_no_more;
-          longer = l.1;
-          reaches = λ e. let k : 0 < b.rest = grind (arith, nat_tests) in grind (arith, nat_tests);
-        })
+          rest = elim l.1 [
+            | inl k ↦ inl (omega arith)
+            | inr k ↦ inr (record { longer = k; reaches = λ e. let m : 0 < b.rest = grind (arith, nat_tests) in grind (arith, nat_tests) })
+          ];
+        }))
       ];
     }
 
@@ -161,16 +180,27 @@ cover_rested a b h =
       today_no_more = record { at_rest = h.today_no_more.at_rest; at_duty = no_more_rested (rest_on a.rest) (rest_on b.rest) 1 a.today b.today l h.today_no_more };
       yesterday = elim h.yesterday [
         | inl k ↦ inl (omega arith)
-        | inr k ↦ inr (no_more k.0, longest_more true true a.today.longest b.today.longest (rest_on a.rest) (rest_on b.rest) (λ e. e) k.1 l)
+        | inr k ↦ inr (
+          no_more k.0,
+          elim k.1 [
+            | inl e ↦ inl (let m = longest_least true a.today.longest (rest_on a.rest) in omega arith)
+            | inr e ↦ inr (longest_more true true a.today.longest b.today.longest (rest_on a.rest) (rest_on b.rest) (λ i. i) e l)
+          ],
+        )
       ];
       ends = elim h.ends [
         | inl k ↦ inl k
-        | inr k ↦ inr (record {
-          fewer = k.fewer;
-          yesterday = no_more k.yesterday;
-          longer = longest_more a.reaches b.reaches a.yesterday.longest b.yesterday.longest (rest_on a.rest) (rest_on b.rest) k.reaches k.longer l;
-          reaches = k.reaches;
-        })
+        | inr e ↦ elim e [
+          | inl k ↦ inr (inl (let u = k.rest in let v = k.both in let w = longest_least a.reaches a.yesterday.longest (rest_on a.rest) in record { rest = omega arith; both = omega arith }))
+          | inr k ↦ inr (inr (record {
+            fewer = k.fewer;
+            yesterday = no_more k.yesterday;
+            rest = elim k.rest [
+              | inl i ↦ inl (let w = longest_least a.reaches a.yesterday.longest (rest_on a.rest) in omega arith)
+              | inr i ↦ inr (record { longer = longest_more a.reaches b.reaches a.yesterday.longest b.yesterday.longest (rest_on a.rest) (rest_on b.rest) i.reaches i.longer l; reaches = i.reaches })
+            ];
+          }))
+        ]
       ];
     }
 
@@ -188,10 +218,20 @@ cover_worked a b h =
       same_minute = omega arith;
       rested = omega arith;
       today_no_more = no_more_worked 1 a.today b.today h.today_no_more;
-      yesterday = elim h.yesterday [ inl l ↦ inl (omega arith) | inr l ↦ inr (no_more_worked 0 a.yesterday b.yesterday l.0, l.1) ];
+      yesterday = elim h.yesterday [
+        | inl l ↦ inl (omega arith)
+        | inr l ↦ inr (no_more_worked 0 a.yesterday b.yesterday l.0, elim l.1 [ inl e ↦ inl (omega arith) | inr e ↦ inr e ])
+      ];
       ends = elim h.ends [
         | inl l ↦ inl l
-        | inr l ↦ inr (record { fewer = l.fewer; yesterday = no_more_worked 0 a.yesterday b.yesterday l.yesterday; longer = l.longer; reaches = λ e. e })
+        | inr e ↦ elim e [
+          | inl l ↦ inr (inl (let v = l.both in record { rest = l.rest; both = omega arith }))
+          | inr l ↦ inr (inr (record {
+            fewer = l.fewer;
+            yesterday = no_more_worked 0 a.yesterday b.yesterday l.yesterday;
+            rest = elim l.rest [ inl i ↦ inl i | inr i ↦ inr (record { longer = i.longer; reaches = λ f. f }) ];
+          }))
+        ]
       ];
     }
 
@@ -201,13 +241,25 @@ keeps_same a b h s0 s1 s2 e =
     let t = h.today_no_more.at_rest in
     let m = p.today_most in
     passes_from a (record {
-      before_both = λ l. elim h.ends [ inl k ↦ absurd (omega arith) | inr k ↦ (let f = k.fewer in let y = k.yesterday.at_rest in let q = p.before_both (omega arith) in omega arith) ];
-      before_rest = λ l. elim h.ends [ inl k ↦ absurd (omega arith) | inr k ↦ (let f = k.fewer in let o = k.longer in let q = p.before_rest (omega arith) in omega arith) ];
+      before_both = λ l. elim h.ends [
+        | inl k ↦ absurd (omega arith)
+        | inr d ↦ elim d [
+          | inl k ↦ (let v = k.both in omega arith)
+          | inr k ↦ (let f = k.fewer in let y = k.yesterday.at_rest in let q = p.before_both (omega arith) in omega arith)
+        ]
+      ];
+      before_rest = λ l. elim h.ends [
+        | inl k ↦ absurd (omega arith)
+        | inr d ↦ elim d [
+          | inl k ↦ k.rest
+          | inr k ↦ elim k.rest [ inl i ↦ i | inr i ↦ (let f = k.fewer in let o = i.longer in let q = p.before_rest (omega arith) in omega arith) ]
+        ]
+      ];
       most = λ l. elim h.yesterday [ inl k ↦ absurd (omega arith) | inr k ↦ (let y = k.0.at_rest in let q = p.most (omega arith) in omega arith) ];
       both = λ l. elim h.yesterday [ inl k ↦ absurd (omega arith) | inr k ↦ (let y = k.0.at_rest in let q = p.both (omega arith) in omega arith) ];
       rest = λ over l.
           let f : nat_lt b.minute DAY_MINUTES ≡ false = ap (λ n. nat_lt n DAY_MINUTES) (sym h.same_minute) ∙ over in
-          elim h.yesterday [ inl k ↦ absurd (omega arith) | inr k ↦ (let y = k.0.at_rest in let z = k.1 in let q = p.rest f (omega arith) in omega arith) ];
+          elim h.yesterday [ inl k ↦ absurd (omega arith) | inr k ↦ elim k.1 [ inl i ↦ (let u : a.yesterday.short ≡ 0 = s2 in omega arith) | inr i ↦ (let y = k.0.at_rest in let q = p.rest f (omega arith) in omega arith) ] ];
       today_most = omega arith;
     })
 
@@ -293,8 +345,12 @@ rested_covers_worked s =
       same_minute = refl;
       rested = omega arith;
       today_no_more = record { at_rest = omega arith; at_duty = omega arith };
-      yesterday = inr (no_more, longest_least true s.today.longest (rest_on s.rest));
-      ends = inr (record { fewer = omega arith; yesterday = no_more; longer = longest_least s.reaches s.yesterday.longest (rest_on s.rest); reaches = λ e. absurd (let z : false ≡ true = e in cc) });
+      yesterday = inr (no_more, inr (longest_least true s.today.longest (rest_on s.rest)));
+      ends = inr (inr (record {
+        fewer = omega arith;
+        yesterday = no_more;
+        rest = inr (record { longer = longest_least s.reaches s.yesterday.longest (rest_on s.rest); reaches = λ e. absurd (let z : false ≡ true = e in cc) });
+      }));
     }
 
 -- What any activity leads to, rest may stand for.
