@@ -4,7 +4,7 @@ ghost use Rattle.std.specs.List.{list_all, list_any};
 ghost use Rattle.duty_core.specs.declared.limits.TheConstants.{AU_7D_REST};
 ghost use Rattle.allowance.specs.Allow.{may_spend, spent, implies as implies_test, gives};
 ghost use Rattle.hvnl_rules.specs.Counted.{begun_short, begun, with_needs, after_duty, after_rest, start_held, added_all, short_limits, long_limits};
-ghost use Rattle.hvnl_rules.specs.Covers.{covers_held};
+ghost use Rattle.hvnl_rules.specs.Covers.{covers_run as covers_run_test, covers_held};
 
 use allowance::{Allowances, Limit, Need, implies};
 use duty_core::{
@@ -135,12 +135,20 @@ fn are_given(needs: &[Need], others: &[Need]) -> bool
     true
 }
 
-/// Whether the runs of rest in progress are equal, each limit is implied by one of the other, and
-/// each need is given by one of the other.
+/// Whether so much rest in progress may stand for other rest: the same periods begin after it, and
+/// it ends each need and gives each night its break no later.
+fn covers_run(run: u32, other: u32) -> bool
+    ensures { result ≡ covers_run_test run other }
+{
+    run == other || (other >= AU_LONG_START && run >= other)
+}
+
+/// Whether the rest in progress may stand for that of the other, each limit is implied by one of the
+/// other, and each need is given by one of the other.
 pub fn covers(held: &Allowances, other: &Allowances) -> bool
     ensures { result ≡ covers_held held.now other.now }
 {
-    held.run() == other.run()
+    covers_run(held.run(), other.run())
         && (are_implied(held.limits(), other.limits()) && are_given(held.needs(), other.needs()))
 }
 

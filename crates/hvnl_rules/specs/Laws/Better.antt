@@ -141,7 +141,7 @@ module _ (first : ℕ) (p q : List Activity) (a b : HvnlState) (same : length p 
   better_covered : IsCovered a b
   better_covered = record {
     held = record {
-      run = run_same;
+      run = inl run_same;
       limits = λ r o. limit_given r (one_held a.held.limits r l.tracks.counted.held.limits o) o;
       needs = λ n o.
           let w = g.needs n.rest n.units (l.stands.needs.only n o) in

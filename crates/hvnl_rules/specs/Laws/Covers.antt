@@ -8,7 +8,7 @@ use Rattle.std.proofs.lemmas.List.Elements.{All-head, All-tail}
 use Rattle.duty_core.specs.declared.activity.Activity.{Activity}
 use Rattle.duty_core.specs.declared.activity.Activity.TheVariants.{Drive, Serve, Wait, Off, Berth}
 use Rattle.duty_core.specs.declared.params.Params.TheVariants.{Hvnl}
-use Rattle.duty_core.specs.declared.limits.TheConstants.{DAY_MINUTES, AU_SHORT_START, AU_LONG_START, AU_7D_REST, AU_14D_PERIOD, AU_14D_NIGHTS, AU_NIGHT_BEFORE, AU_NIGHT_AFTER}
+use Rattle.duty_core.specs.declared.limits.TheConstants.{DAY_MINUTES, AU_SHORT_START, AU_LONG_START, AU_7D_REST, AU_14D_PERIOD, AU_14D_NIGHTS, AU_NIGHT_BEFORE, AU_NIGHT_AFTER, AU_NIGHT_REST, AU_NIGHT_LONG_REST}
 use Rattle.duty_core.specs.Params.{allows}
 use Rattle.duty_core.specs.Activity.{idles}
 use Rattle.allowance.specs.declared.limit.Limit.{Limit}
@@ -25,12 +25,15 @@ use Rattle.hvnl_rules.specs.Laws.Dates.{dated_one, one_dated, any_one, one_any, 
 use Rattle.hvnl_rules.specs.Laws.NightLaws.{dated_cases, dated_starts}
 use Rattle.hvnl_rules.specs.Machine.{duty_ok, duty_state, rest_state, plain, hvnl_nexts, hvnl_step, hvnl_advances, hvnl_idles, IsHvnlState}
 use Rattle.hvnl_rules.specs.Laws.Steps.{next_means, step_cases, next_from}
-use Rattle.hvnl_rules.specs.Covers.{covers_held, covers_nights, covers_state}
+use Rattle.hvnl_rules.specs.Covers.{covers_run, covers_held, covers_nights, covers_state}
 
 -- # What it says
 
+abbrev pub IsRunCovered : ℕ → ℕ → Type 0
+IsRunCovered a b = (a ≡ b) ⊎ ((AU_LONG_START ≤ b) × (b ≤ a))
+
 pub record IsHeldCovered (a b : Held) : Type 0 where
-  pub run : a.run ≡ b.run
+  pub run : IsRunCovered a.run b.run
   pub limits : (q : Limit) → IsOneOf a.limits q → (k : Limit) × IsOneOf b.limits k × (implies k q ≡ true)
   pub needs : (n : Need) → IsOneOf a.needs n → (k : Need) × IsOneOf b.needs k × (gives k n ≡ true)
 
@@ -42,15 +45,26 @@ pub record IsCovered (a b : HvnlState) : Type 0 where
   pub held : IsHeldCovered a.held b.held
   pub nights : AreNightsCovered a.nights b.nights
 
+run_means : (a b : ℕ) → covers_run a b ≡ true → IsRunCovered a b
+run_means a b e = elim (or_cases (nat_eq a b) (nat_le AU_LONG_START b && nat_le b a) e) [
+  | inl y ↦ inl (grind (arith, nat_tests))
+  | inr y ↦ (let c = and_parts (nat_le AU_LONG_START b) (nat_le b a) y in let l = c.0 in let m = c.1 in inr (grind (arith, nat_tests), grind (arith, nat_tests)))
+]
+
+means_run : (a b : ℕ) → IsRunCovered a b → covers_run a b ≡ true
+means_run a b h = elim h [
+  | inl e ↦ or_left (nat_eq a b) (nat_le AU_LONG_START b && nat_le b a) (grind (arith, nat_tests))
+  | inr r ↦ (let l = r.0 in let m = r.1 in or_right (nat_eq a b) (nat_le AU_LONG_START b && nat_le b a) (and_from (nat_le AU_LONG_START b) (nat_le b a) (grind (arith, nat_tests)) (grind (arith, nat_tests))))
+]
+
 held_means : (a b : Held) → covers_held a b ≡ true → IsHeldCovered a b
 held_means a b h =
     let L = list_all (λ q. list_any (λ k. implies k q) b.limits) a.limits in
     let N = list_all (λ n. list_any (λ k. gives k n) b.needs) a.needs in
-    let c = and_parts (nat_eq a.run b.run) (L && N) h in
+    let c = and_parts (covers_run a.run b.run) (L && N) h in
     let d = and_parts L N c.1 in
-    let r = c.0 in
     record {
-      run = grind (arith, nat_tests);
+      run = run_means a.run b.run c.0;
       limits = λ q o. any_one (λ k. implies k q) b.limits (all_one (λ q. list_any (λ k. implies k q) b.limits) a.limits d.0 q o);
       needs = λ n o. any_one (λ k. gives k n) b.needs (all_one (λ n. list_any (λ k. gives k n) b.needs) a.needs d.1 n o);
     }
@@ -59,8 +73,7 @@ means_held : (a b : Held) → IsHeldCovered a b → covers_held a b ≡ true
 means_held a b h =
     let L = list_all (λ q. list_any (λ k. implies k q) b.limits) a.limits in
     let N = list_all (λ n. list_any (λ k. gives k n) b.needs) a.needs in
-    let r = h.run in
-    and_from (nat_eq a.run b.run) (L && N) (grind (arith, nat_tests))
+    and_from (covers_run a.run b.run) (L && N) (means_run a.run b.run h.run)
     (and_from L N
     (one_all (λ q. list_any (λ k. implies k q) b.limits) a.limits (λ q o. let g = h.limits q o in one_any (λ k. implies k q) b.limits g.0 g.1 g.2))
     (one_all (λ n. list_any (λ k. gives k n) b.needs) a.needs (λ n o. let g = h.needs n o in one_any (λ k. gives k n) b.needs g.0 g.1 g.2)))
@@ -122,16 +135,40 @@ gives_itself n = gives_from n n refl (omega arith)
 gives_on : (a b c : Need) → gives a b ≡ true → gives b c ≡ true → gives a c ≡ true
 gives_on a b c e f = let l = gives_means a b e in let m = gives_means b c f in let p = l.1 in let q = m.1 in gives_from a c (l.0 ∙ m.0) (omega arith)
 
+-- rest in progress that stands for other rest is no less, and the same periods begin after it
+run_less : (a b : ℕ) → IsRunCovered a b → b ≤ a
+run_less a b h = elim h [ inl e ↦ omega arith | inr r ↦ r.1 ]
+
+same_start : (n a b : ℕ) → n ≤ AU_LONG_START → IsRunCovered a b → nat_le n b ≡ nat_le n a
+same_start n a b l h = elim h [
+  | inl e ↦ ap (nat_le n) (sym e)
+  | inr r ↦
+      let c = r.0 in
+      let d = r.1 in
+      let x : nat_le n b ≡ true = (let m : n ≤ b = omega arith in grind (arith, nat_tests)) in
+      let y : nat_le n a ≡ true = (let m : n ≤ a = omega arith in grind (arith, nat_tests)) in
+      x ∙ sym y
+]
+
+run_on : (a b c : ℕ) → IsRunCovered a b → IsRunCovered b c → IsRunCovered a c
+run_on a b c h g = elim g [
+  | inl e ↦ subst (IsRunCovered a) e h
+  | inr r ↦ (let l = run_less a b h in let m = r.1 in inr (r.0, omega arith))
+]
+
+run_more : (a b : ℕ) → IsRunCovered a b → IsRunCovered (min (one_more a) AU_7D_REST) (min (one_more b) AU_7D_REST)
+run_more a b h = elim h [ inl e ↦ inl (ap (λ r. min (one_more r) AU_7D_REST) e) | inr r ↦ (let l = r.0 in let m = r.1 in inr (omega arith, omega arith)) ]
+
 covered_itself : (s : HvnlState) → IsCovered s s
 covered_itself s = record {
-  held = record { run = refl; limits = λ q o. (q, o, implies_itself q); needs = λ n o. (n, o, gives_itself n) };
+  held = record { run = inl refl; limits = λ q o. (q, o, implies_itself q); needs = λ n o. (n, o, gives_itself n) };
   nights = record { starts = λ t o. o; dates = λ d t o m e. o };
 }
 
 covered_on : (a b c : HvnlState) → IsCovered a b → IsCovered b c → IsCovered a c
 covered_on a b c h g = record {
   held = record {
-    run = h.held.run ∙ g.held.run;
+    run = run_on a.held.run b.held.run c.held.run h.held.run g.held.run;
     limits = λ q o. (let k = h.held.limits q o in let l = g.held.limits k.0 k.1 in (l.0, l.1, implies_on l.0 k.0 q l.2 k.2));
     needs = λ n o. (let k = h.held.needs n o in let l = g.held.needs k.0 k.1 in (l.0, l.1, gives_on l.0 k.0 n l.2 k.2));
   };
@@ -211,14 +248,15 @@ covered_when true ps a b h = covered_all ps a b h
 covered_when false ps a b h = h
 
 -- the limits of the periods that begin
-abbrev begun_by : ℕ → Held → Held
-begun_by run h = cond (nat_le AU_LONG_START run) (added_all (cond (nat_le AU_SHORT_START run) (added_all h short_limits) h) long_limits) (cond (nat_le AU_SHORT_START run) (added_all h short_limits) h)
+abbrev begun_by : Bool → Bool → Held → Held
+begun_by long short h = cond long (added_all (cond short (added_all h short_limits) h) long_limits) (cond short (added_all h short_limits) h)
 
 covered_begun : (a b : Held) → IsHeldCovered a b → IsHeldCovered (begun a) (begun b)
 covered_begun a b h =
-    subst (λ r. IsHeldCovered (begun_by r a) (begun_by b.run b)) (sym h.run)
+    subst (λ t. IsHeldCovered (begun_by t (nat_le AU_SHORT_START a.run) a) (begun b)) (same_start AU_LONG_START a.run b.run (omega arith) h.run)
+    (subst (λ t. IsHeldCovered (begun_by (nat_le AU_LONG_START b.run) t a) (begun b)) (same_start AU_SHORT_START a.run b.run (omega arith) h.run)
     (covered_when (nat_le AU_LONG_START b.run) long_limits (cond (nat_le AU_SHORT_START b.run) (added_all a short_limits) a) (cond (nat_le AU_SHORT_START b.run) (added_all b short_limits) b)
-    (covered_when (nat_le AU_SHORT_START b.run) short_limits a b h))
+    (covered_when (nat_le AU_SHORT_START b.run) short_limits a b h)))
 
 -- some need of the list gives this one
 abbrev pub IsNeeded : List Need → Need → Type 0
@@ -287,7 +325,7 @@ covered_spent : (a b : Held) → IsHeld b → may_spend b ≡ true → IsHeldCov
 covered_spent a b i e h =
     let c = and_parts (list_all (λ p. nat_lt 0 p.duty) b.limits) (list_all (λ n. nat_lt n.rest n.units) b.needs) e in
     record {
-      run = refl;
+      run = inl refl;
       limits = λ r o.
           let q = one_of-map spent_limit a.limits r o in
           let k = h.limits q.0 q.1 in
@@ -306,7 +344,7 @@ covered_spent a b i e h =
 
 covered_passed : (a b : Held) → IsHeld b → IsHeldCovered a b → IsHeldCovered (after_rest a) (after_rest b)
 covered_passed a b i h = record {
-  run = ap (λ r. min (one_more r) AU_7D_REST) h.run;
+  run = run_more a.run b.run h.run;
   limits = λ r o.
       let f = filter_one is_open (map passed_limit a.limits) r o in
       let q = one_of-map passed_limit a.limits r f.0 in
@@ -326,16 +364,20 @@ covered_passed a b i h = record {
       let k = h.needs q.0 q.1 in
       let l = gives_means k.0 q.0 k.2 in
       let v = l.1 in
-      let same : waits (one_more b.run) (passed_need k.0) ≡ true = ap (λ n. nat_lt (one_more b.run) n) l.0 ∙ (ap (λ n. nat_lt (one_more n) q.0.rest) (sym h.run) ∙ (ap (waits (one_more a.run)) q.2 ∙ f.1)) in (
+      let less = run_less a.run b.run h.run in
+      let waits_here : nat_lt (one_more a.run) q.0.rest ≡ true = ap (waits (one_more a.run)) q.2 ∙ f.1 in
+      let m : one_more a.run < q.0.rest = grind (arith, nat_tests) in
+      let same = l.0 in
+      let waits_there : one_more b.run < k.0.rest = omega arith in (
         passed_need k.0,
-        one_filter (waits (one_more b.run)) (map passed_need b.needs) (passed_need k.0) same (one_of_map passed_need b.needs k.0 k.1),
+        one_filter (waits (one_more b.run)) (map passed_need b.needs) (passed_need k.0) (grind (arith, nat_tests)) (one_of_map passed_need b.needs k.0 k.1),
         subst (λ r. gives (passed_need k.0) r ≡ true) q.2 (gives_from (passed_need k.0) (passed_need q.0) l.0 (omega arith)),
       );
 }
 
 covered_duty : (a b : Held) → IsHeld b → may_spend (begun b) ≡ true → IsHeldCovered a b → IsHeldCovered (after_duty a) (after_duty b)
 covered_duty a b i e h =
-    subst (λ r. IsHeldCovered (with_needs r (spent (begun a))) (after_duty b)) (sym h.run)
+    subst (λ t. IsHeldCovered (cond t (needed (needed (spent (begun a)) day_need) week_need) (spent (begun a))) (after_duty b)) (same_start AU_LONG_START a.run b.run (omega arith) h.run)
     (covered_needs b.run (spent (begun a)) (spent (begun b)) (covered_spent (begun a) (begun b) (begun_held b i) e (covered_begun a b h)))
 
 -- # Nights
@@ -417,12 +459,32 @@ dated_new at run n e = elim (dated_cases at run n) [
   | inr c ↦ subst (λ k. IsOneOf k.dates (today at)) (sym c.0) (dated_one n.dates (today at) (c.1 e))
 ]
 
-covered_dated : (at run : ℕ) (a b : Nights) → AreNightsCovered a b → AreNightsCovered (dated at run a) (dated at run b)
-covered_dated at run a b h = record {
-  starts = λ s o. subst (λ l. IsOneOf l s) (sym (dated_starts at run b)) (h.starts s (subst (λ l. IsOneOf l s) (dated_starts at run a) o));
+-- the longer rest gives each night its break
+rested_longer : (at more run date : ℕ) → run ≤ more → is_rested at run date ≡ true → is_rested at more date ≡ true
+rested_longer at more run date l e =
+    let P = nat_le (DAY_MINUTES * date + minutes AU_NIGHT_REST) (at + minutes (1 + AU_NIGHT_BEFORE)) && nat_le (at + minutes 1) (DAY_MINUTES * date + minutes AU_NIGHT_AFTER) in
+    let Q = nat_lt (at + minutes 1) (DAY_MINUTES * date + minutes AU_NIGHT_LONG_REST) in
+    elim (or_cases (nat_le AU_NIGHT_REST run && P) (nat_le AU_NIGHT_LONG_REST run && Q) e) [
+      | inl y ↦
+          let c = and_parts (nat_le AU_NIGHT_REST run) P y in
+          let r = c.0 in
+          let m : AU_NIGHT_REST ≤ run = grind (arith, nat_tests) in
+          let n : AU_NIGHT_REST ≤ more = omega arith in
+          or_left (nat_le AU_NIGHT_REST more && P) (nat_le AU_NIGHT_LONG_REST more && Q) (and_from (nat_le AU_NIGHT_REST more) P (grind (arith, nat_tests)) c.1)
+      | inr y ↦
+          let c = and_parts (nat_le AU_NIGHT_LONG_REST run) Q y in
+          let r = c.0 in
+          let m : AU_NIGHT_LONG_REST ≤ run = grind (arith, nat_tests) in
+          let n : AU_NIGHT_LONG_REST ≤ more = omega arith in
+          or_right (nat_le AU_NIGHT_REST more && P) (nat_le AU_NIGHT_LONG_REST more && Q) (and_from (nat_le AU_NIGHT_LONG_REST more) Q (grind (arith, nat_tests)) c.1)
+    ]
+
+covered_dated : (at more run : ℕ) (a b : Nights) → run ≤ more → AreNightsCovered a b → AreNightsCovered (dated at more a) (dated at run b)
+covered_dated at more run a b l h = record {
+  starts = λ s o. subst (λ l. IsOneOf l s) (sym (dated_starts at run b)) (h.starts s (subst (λ l. IsOneOf l s) (dated_starts at more a) o));
   dates = λ d s o m e. elim (one_of_dated at run b d o) [
-    | inl y ↦ dated_keeps at run a d (h.dates d s y (subst (λ l. IsOneOf l s) (dated_starts at run a) m) e)
-    | inr y ↦ subst (IsOneOf (dated at run a).dates) y.0 (dated_new at run a y.1)
+    | inl y ↦ dated_keeps at more a d (h.dates d s y (subst (λ l. IsOneOf l s) (dated_starts at more a) m) e)
+    | inr y ↦ subst (IsOneOf (dated at more a).dates) y.0 (dated_new at more a (rested_longer at more run (today at) l y.1))
   ];
 }
 
@@ -441,7 +503,7 @@ covered_duty_state : (a b : HvnlState) (at : ℕ) → IsHvnlState b at → duty_
 covered_duty_state a b at i e h =
     let c = and_parts (may_spend (begun b.held)) (nights_ok (at + minutes 1) (pushed at b.held.run b.nights)) e in
     let n : AreNightsCovered (pushed at a.held.run a.nights) (pushed at b.held.run b.nights) =
-    subst (λ r. AreNightsCovered (pushed at r a.nights) (pushed at b.held.run b.nights)) (sym h.held.run) (covered_pushed at b.held.run a.nights b.nights i.dates h.nights) in (
+    subst (λ t. AreNightsCovered (cond t (record a.nights { starts = a.nights.starts ++ at ∷ [] }) a.nights) (pushed at b.held.run b.nights)) (same_start AU_LONG_START a.held.run b.held.run (omega arith) h.held.run) (covered_pushed at b.held.run a.nights b.nights i.dates h.nights) in (
       and_from (may_spend (begun a.held)) (nights_ok (at + minutes 1) (pushed at a.held.run a.nights)) (covered_may (begun a.held) (begun b.held) (covered_begun a.held b.held h.held) c.0)
           (ok_covered (at + minutes 1) (pushed at a.held.run a.nights) (pushed at b.held.run b.nights) n c.1),
       record {
@@ -456,7 +518,7 @@ covered_rest_state a b at i h =
     record {
       held = c;
       nights = covered_open (at + minutes 1) (dated at (after_rest a.held).run a.nights) (dated at (after_rest b.held).run b.nights)
-          (subst (λ r. AreNightsCovered (dated at r a.nights) (dated at (after_rest b.held).run b.nights)) (sym c.run) (covered_dated at (after_rest b.held).run a.nights b.nights h.nights));
+          (covered_dated at (after_rest a.held).run (after_rest b.held).run a.nights b.nights (run_less (after_rest a.held).run (after_rest b.held).run c.run) h.nights);
     }
 
 step_covered : (a b : HvnlState) (at : ℕ) (x : Activity) (t : HvnlState) → IsHvnlState b at → IsCovered a b → hvnl_step b at x ≡ Some t → (u : HvnlState) × (hvnl_step a at x ≡ Some u) × IsCovered u t
