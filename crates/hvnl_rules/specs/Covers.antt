@@ -1,11 +1,10 @@
 -- When one state may stand for another: it asks nothing that the other does not ask.
-use Rattle.std.proofs.Common.{ℕ, Bool, not, ◌&&◌, ◌||◌}
-use Rattle.std.specs.Prelude.{nat_eq, nat_le}
+use Rattle.std.specs.Prelude.{ℕ, List, max, Bool, not, ◌&&◌, ◌||◌, nat_eq, nat_le}
 use Rattle.std.specs.List.{list_all, list_any}
 use Rattle.duty_core.specs.declared.limits.TheConstants.{AU_LONG_START}
 use Rattle.allowance.specs.Allow.{Held, implies, gives}
 use Rattle.hvnl_rules.specs.declared.state.HvnlState.{HvnlState}
-use Rattle.hvnl_rules.specs.Nights.{Nights, lies_in, is_dated}
+use Rattle.hvnl_rules.specs.Nights.{Nights, lies_in, first_date, end_date, is_dated, has_nights, past_period, today}
 
 -- # The test
 
@@ -18,9 +17,17 @@ abbrev pub covers_held : Held → Held → Bool
 covers_held a b =
     covers_run a.run b.run && (list_all (λ q. list_any (λ k. implies k q) b.limits) a.limits && list_all (λ n. list_any (λ k. gives k n) b.needs) a.needs)
 
--- each open period is one of the other, and each of its nights that has a break there has one here
-abbrev pub covers_nights : Nights → Nights → Bool
-covers_nights a b = list_all (is_dated b.starts) a.starts && list_all (λ d. not (list_any (lies_in d) a.starts) || is_dated a.dates d) b.dates
+-- At this minute the period asks no more than one of the other: each night of that one which has a break there, or may get one yet, is one of this, and has its break here where it has one there.
+abbrev pub covers_start : ℕ → List ℕ → List ℕ → ℕ → ℕ → Bool
+covers_start at dates others start other =
+    (nat_le (end_date other) (end_date start) && nat_le (first_date start) (max (first_date other) (today at))) && list_all (λ d. not (lies_in d other) || (lies_in d start && is_dated dates d)) others
 
-abbrev pub covers_state : HvnlState → HvnlState → Bool
-covers_state a b = covers_held a.held b.held && covers_nights a.nights b.nights
+-- so is it with some period of the other, or it has its nights already
+abbrev pub covers_period : ℕ → List ℕ → Nights → ℕ → Bool
+covers_period at dates b start = list_any (covers_start at dates b.dates start) b.starts || has_nights (past_period start) dates start
+
+abbrev pub covers_nights : ℕ → Nights → Nights → Bool
+covers_nights at a b = list_all (covers_period at a.dates b) a.starts
+
+abbrev pub covers_state : HvnlState → HvnlState → ℕ → Bool
+covers_state a b at = covers_held a.held b.held && covers_nights at a.nights b.nights

@@ -1,11 +1,12 @@
 -- A state asks few things at once: how many limits, needs, periods and nights it can hold.
 use Rattle.std.specs.Prelude.{ℕ, ◌+◌, ◌-◌, ◌*◌, ◌/◌, ◌≤◌, ◌≡◌, min, Bool, true, ◌&&◌, ◌||◌, List, [], ◌∷◌, All, count_by, nat_eq, nat_lt, nat_le}
+use Rattle.std.specs.List.{list_all}
 use Rattle.duty_core.specs.declared.limits.TheConstants.{DAY_MINUTES, AU_LONG_START, AU_11H_PERIOD, AU_11H_DUTY, AU_24H_PERIOD, AU_24H_REST, AU_7D_PERIOD, AU_7D_REST, AU_14D_PERIOD, AU_14D_DUTY}
 use Rattle.allowance.specs.declared.limit.Limit.{Limit}
 use Rattle.allowance.specs.declared.limit.Need.{Need}
 use Rattle.allowance.specs.Allow.{Held}
 use Rattle.allowance.specs.Few.{slack}
-use Rattle.hvnl_rules.specs.Nights.{Nights, minutes, is_running}
+use Rattle.hvnl_rules.specs.Nights.{Nights, minutes, is_running, has_nights, next_break}
 
 -- how many of the limits stay open for more than v rest units
 abbrev pub wide : ℕ → List Limit → ℕ
@@ -51,3 +52,5 @@ pub record AreFewNights (n : Nights) (run at : ℕ) : Type 0 where
   pub unfinished : All (λ t. is_running at t ≡ true) n.starts
   pub ordered : is_spaced 1 0 n.dates ≡ true
   pub recent : All (λ d. is_recent at d ≡ true) n.dates
+  -- with rest that goes on for good each period has its nights
+  pub kept : list_all (has_nights (next_break at run) n.dates) n.starts ≡ true

@@ -10,6 +10,7 @@ pub mod Covers
 pub mod Dates
 pub mod Ended
 pub mod Exact
+pub mod KeptNights
 pub mod NightLaws
 pub mod NightTest
 pub mod Single

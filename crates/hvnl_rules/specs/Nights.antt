@@ -1,5 +1,5 @@
 -- What the periods of fourteen days know of their nights, and how that goes on. Minutes are civil, and a night is named by the date that begins at its midnight: day 0 is the first one.
-use Rattle.std.specs.Prelude.{ℕ, zero, suc, ◌+◌, ◌-◌, ◌*◌, ◌/◌, Bool, not, ◌&&◌, ◌||◌, List, [], ◌∷◌, ◌++◌, filter, count_by, nat_eq, nat_lt, nat_le, if◌then◌else◌}
+use Rattle.std.specs.Prelude.{ℕ, zero, suc, ◌+◌, ◌-◌, ◌*◌, ◌/◌, max, Bool, not, ◌&&◌, ◌||◌, List, [], ◌∷◌, ◌++◌, filter, count_by, nat_eq, nat_lt, nat_le, if◌then◌else◌}
 use Rattle.std.specs.List.{list_all, list_any}
 use Rattle.duty_core.specs.declared.params.Params.TheVariants.{Hvnl}
 use Rattle.duty_core.specs.declared.limits.TheConstants.{DAY_MINUTES, AU_LONG_START, AU_14D_PERIOD, AU_14D_NIGHTS, AU_NIGHT_BEFORE, AU_NIGHT_AFTER, AU_NIGHT_REST, AU_NIGHT_LONG_REST}
@@ -52,23 +52,34 @@ period_dates start = dates_from (first_date start) (end_date start - first_date 
 abbrev pub is_dated : List ℕ → ℕ → Bool
 is_dated dates date = list_any (nat_eq date) dates
 
--- the night has a break, or has one with rest for good from this minute on
+-- the night has a break, or gets one by rest that gives breaks from the minute `soonest` on
 abbrev pub is_safe : ℕ → List ℕ → ℕ → Bool
-is_safe at dates date = is_dated dates date || nat_le (at + minutes AU_NIGHT_REST) (DAY_MINUTES * date + minutes AU_NIGHT_AFTER)
+is_safe soonest dates date = is_dated dates date || nat_le soonest (DAY_MINUTES * date + minutes AU_NIGHT_AFTER)
 
 -- so have enough nights of the period, and two consecutive ones
 abbrev pub has_four : ℕ → List ℕ → ℕ → Bool
-has_four at dates start = nat_le AU_14D_NIGHTS (count_by (is_safe at dates) (period_dates start))
+has_four soonest dates start = nat_le AU_14D_NIGHTS (count_by (is_safe soonest dates) (period_dates start))
 
 abbrev pub is_pair : ℕ → List ℕ → ℕ → ℕ → Bool
-is_pair at dates start date = (is_safe at dates date && is_safe at dates (date + 1)) && ends_in (date + 1) start
+is_pair soonest dates start date = (is_safe soonest dates date && is_safe soonest dates (date + 1)) && ends_in (date + 1) start
 
 abbrev pub has_two : ℕ → List ℕ → ℕ → Bool
-has_two at dates start = list_any (is_pair at dates start) (period_dates start)
+has_two soonest dates start = list_any (is_pair soonest dates start) (period_dates start)
+
+abbrev pub has_nights : ℕ → List ℕ → ℕ → Bool
+has_nights soonest dates start = has_four soonest dates start && has_two soonest dates start
 
 -- with rest for good from this minute on each period has its nights
 abbrev pub nights_ok : ℕ → Nights → Bool
-nights_ok at n = list_all (λ start. has_four at n.dates start && has_two at n.dates start) n.starts
+nights_ok at n = list_all (has_nights (at + minutes AU_NIGHT_REST) n.dates) n.starts
+
+-- With rest for good from this minute on, where so much rest stands before it, breaks come from here on.
+abbrev pub next_break : ℕ → ℕ → ℕ
+next_break at run = at + minutes (max 1 (AU_NIGHT_REST - run))
+
+-- No night of the period ends as late as this: one that is safe then has its break already.
+abbrev pub past_period : ℕ → ℕ
+past_period start = start + minutes (AU_14D_PERIOD + 1)
 
 -- the date of a minute
 abbrev pub today : ℕ → ℕ

@@ -9,7 +9,7 @@ use Rattle.allowance.specs.Allow.{Held, is_held}
 use Rattle.allowance.specs.Few.{slack}
 use Rattle.hvnl_rules.specs.declared.state.HvnlState.{HvnlState}
 use Rattle.hvnl_rules.specs.Counted.{at_most, at_least}
-use Rattle.hvnl_rules.specs.Nights.{Nights, minutes, is_running, today}
+use Rattle.hvnl_rules.specs.Nights.{Nights, minutes, is_running, has_nights, next_break, today}
 use Rattle.hvnl_rules.specs.Few.{wide, most_wide, is_kind, asking, is_spaced, start_distance, is_recent}
 
 -- # The numbers
@@ -96,8 +96,9 @@ are_few_starts starts run at =
 abbrev pub are_few_dates : List ℕ → ℕ → Bool
 are_few_dates dates at = is_spaced 1 0 dates && (list_all (is_recent at) dates && list_all (λ d. nat_le (DAY_MINUTES * d) at) dates)
 
+-- and with rest that goes on for good each period has its nights
 abbrev pub are_few_nights : Nights → ℕ → ℕ → Bool
-are_few_nights n run at = are_few_starts n.starts run at && are_few_dates n.dates at
+are_few_nights n run at = are_few_starts n.starts run at && (are_few_dates n.dates at && list_all (has_nights (next_break at run) n.dates) n.starts)
 
 abbrev pub is_hvnl_state : HvnlState → ℕ → Bool
 is_hvnl_state s at = is_held s.held && (nat_le s.held.run AU_7D_REST && (is_few_held s.held && are_few_nights s.nights s.held.run at))

@@ -131,8 +131,8 @@ impl RuleBook for HvnlBook {
         Ok(nexts_of(after(state, at, act, n)?))
     }
 
-    fn covers(&self, a: &HvnlState, b: &HvnlState, _at: Minute) -> bool {
-        a.covers(b)
+    fn covers(&self, a: &HvnlState, b: &HvnlState, at: Minute) -> bool {
+        a.covers(b, at)
     }
 
     fn idles(&self, _state: &HvnlState) -> Idles {

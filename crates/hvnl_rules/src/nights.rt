@@ -2,8 +2,8 @@
 ghost use Rattle.std.specs.Prelude.{◌≡◌, ◌+◌, ◌*◌, ◌/◌, ◌<◌, ◌≤◌, ◌&&◌, ◌||◌, ◌-◌, not, nat_le, filter, map, OnOk, IfOk};
 ghost use Rattle.std.specs.List.{list_all, list_any};
 ghost use Rattle.duty_core.specs.declared.limits.TheConstants.{DAY_MINUTES};
-ghost use Rattle.hvnl_rules.specs.Nights.{Nights, no_nights, minutes as minutes_of, is_running as is_running_test, begins_in as begins_test, ends_in as ends_test, lies_in as lies_test, first_date as first_of, end_date as end_of, is_dated as is_dated_test, is_safe as is_safe_test, has_four as four_test, is_pair as pair_test, has_two as two_test, nights_ok, is_rested as is_rested_test, today, dated, pushed, running, counted, still_open};
-ghost use Rattle.hvnl_rules.specs.Covers.{covers_nights};
+ghost use Rattle.hvnl_rules.specs.Nights.{Nights, no_nights, minutes as minutes_of, is_running as is_running_test, begins_in as begins_test, ends_in as ends_test, lies_in as lies_test, first_date as first_of, end_date as end_of, is_dated as is_dated_test, is_safe as is_safe_test, has_four as four_test, is_pair as pair_test, has_two as two_test, has_nights as nights_test, next_break as break_of, past_period as past_of, nights_ok, is_rested as is_rested_test, today, dated, pushed, running, counted, still_open};
+ghost use Rattle.hvnl_rules.specs.Covers.{covers_start as covers_start_test, covers_period as covers_period_test, covers_nights};
 ghost use Rattle.hvnl_rules.specs.Few.{is_recent as is_recent_test};
 ghost use Rattle.hvnl_rules.specs.Numbers.{are_few_starts as few_starts_test, are_few_dates as few_dates_test, are_few_nights as few_nights_test};
 
@@ -100,24 +100,24 @@ fn is_dated(dates: &[u32], date: u64) -> bool
     dates.iter().any(|other| date == u64::from(*other))
 }
 
-/// Whether the night has a break, or has one with rest for good from `at` on.
-fn is_safe(at: Minute, dates: &[u32], date: u64) -> bool
+/// Whether the night has a break, or gets one by rest that gives breaks from the minute `soonest`
+/// on.
+fn is_safe(soonest: u64, dates: &[u32], date: u64) -> bool
     requires { date < 2000000000000 }
-    ensures { result ≡ is_safe_test at dates.now date }
+    ensures { result ≡ is_safe_test soonest dates.now date }
 {
-    is_dated(dates, date)
-        || u64::from(at) + minutes(AU_NIGHT_REST) <= midnight(date) + minutes(AU_NIGHT_AFTER)
+    is_dated(dates, date) || soonest <= midnight(date) + minutes(AU_NIGHT_AFTER)
 }
 
 /// Whether enough nights of the period are safe.
-fn has_four(at: Minute, dates: &[u32], start: Minute) -> bool
-    ensures { result ≡ four_test at dates.now start }
+fn has_four(soonest: u64, dates: &[u32], start: Minute) -> bool
+    ensures { result ≡ four_test soonest dates.now start }
 {
     let first = first_date(start);
     let end = end_date(start);
     let mut safe: u64 = 0;
     for date in first..end {
-        if is_safe(at, dates, date) {
+        if is_safe(soonest, dates, date) {
             safe += 1;
         }
     }
@@ -125,25 +125,46 @@ fn has_four(at: Minute, dates: &[u32], start: Minute) -> bool
 }
 
 /// Whether the night and the next one are safe, and the next one ends in the period.
-fn is_pair(at: Minute, dates: &[u32], start: Minute, date: u64) -> bool
+fn is_pair(soonest: u64, dates: &[u32], start: Minute, date: u64) -> bool
     requires { date < 1000000000000 }
-    ensures { result ≡ pair_test at dates.now start date }
+    ensures { result ≡ pair_test soonest dates.now start date }
 {
-    (is_safe(at, dates, date) && is_safe(at, dates, date + 1)) && ends_in(date + 1, start)
+    (is_safe(soonest, dates, date) && is_safe(soonest, dates, date + 1)) && ends_in(date + 1, start)
 }
 
 /// Whether two consecutive nights of the period are safe.
-fn has_two(at: Minute, dates: &[u32], start: Minute) -> bool
-    ensures { result ≡ two_test at dates.now start }
+fn has_two(soonest: u64, dates: &[u32], start: Minute) -> bool
+    ensures { result ≡ two_test soonest dates.now start }
 {
     let first = first_date(start);
     let end = end_date(start);
     for date in first..end {
-        if is_pair(at, dates, start, date) {
+        if is_pair(soonest, dates, start, date) {
             return true;
         }
     }
     false
+}
+
+/// Whether enough nights of the period are safe, and two consecutive ones.
+fn has_nights(soonest: u64, dates: &[u32], start: Minute) -> bool
+    ensures { result ≡ nights_test soonest dates.now start }
+{
+    has_four(soonest, dates, start) && has_two(soonest, dates, start)
+}
+
+/// The minute from which on rest for good gives breaks, where `run` rest units stand before `at`.
+fn next_break(at: Minute, run: u32) -> u64
+    ensures { result ≡ break_of at run }
+{
+    u64::from(at) + minutes(AU_NIGHT_REST.saturating_sub(run).max(1))
+}
+
+/// A minute before which each night of the period has ended.
+fn past_period(start: Minute) -> u64
+    ensures { result ≡ past_of start }
+{
+    u64::from(start) + minutes(AU_14D_PERIOD + 1)
 }
 
 /// Whether the night of the date has a break with the rest unit that begins at `at`, after which the
@@ -187,36 +208,68 @@ fn keep_counted(dates: &mut Dates, starts: &[u32])
     dates.retain(|date| is_counted(*date, starts));
 }
 
-/// Whether each of these periods has its nights with rest for good from `at` on.
-fn are_kept(at: Minute, dates: &[u32], starts: &[u32]) -> bool
-    ensures { result ≡ list_all (λ start. four_test at dates.now start && two_test at dates.now start) starts.now }
+/// Whether each of these periods has its nights by rest that gives breaks from the minute `soonest`
+/// on.
+fn are_kept(soonest: u64, dates: &[u32], starts: &[u32]) -> bool
+    ensures { result ≡ list_all (nights_test soonest dates.now) starts.now }
 {
     for start in starts {
-        if !(has_four(at, dates, *start) && has_two(at, dates, *start)) {
+        if !has_nights(soonest, dates, *start) {
             return false;
         }
     }
     true
 }
 
-/// Whether each number stands in the list.
-fn are_dated(numbers: &[u32], list: &[u32]) -> bool
-    ensures { result ≡ list_all (is_dated_test list.now) numbers.now }
-{
-    for number in numbers {
-        if !is_dated(list, u64::from(*number)) {
-            return false;
-        }
-    }
-    true
-}
-
-/// Whether each night that lies in one of the periods stands in the list.
-fn are_counted(nights: &[u32], starts: &[u32], list: &[u32]) -> bool
-    ensures { result ≡ list_all (λ d. not (list_any (lies_test d) starts.now) || is_dated_test list.now d) nights.now }
+/// Whether each of these nights that lies in the period of `other` lies in that of `start` too, and
+/// is one of the dates.
+fn are_counted(nights: &[u32], other: Minute, dates: &[u32], start: Minute) -> bool
+    ensures { result ≡ list_all (λ d. not (lies_test d other) || (lies_test d start && is_dated_test dates.now d)) nights.now }
 {
     for night in nights {
-        if !(!is_counted(*night, starts) || is_dated(list, u64::from(*night))) {
+        if !(!lies_in(*night, other)
+            || (lies_in(*night, start) && is_dated(dates, u64::from(*night))))
+        {
+            return false;
+        }
+    }
+    true
+}
+
+/// Whether the period that began at `start` asks no more at `at` than that of `other`: each night of
+/// that one which has a break (one of `nights`), or may get one yet, is one of this, and has its
+/// break (is one of `dates`) where it has one there.
+fn covers_start(at: Minute, dates: &[u32], nights: &[u32], start: Minute, other: Minute) -> bool
+    ensures { result ≡ covers_start_test at dates.now nights.now start other }
+{
+    (end_date(other) <= end_date(start)
+        && first_date(start) <= first_date(other).max(u64::from(at / DAY_MINUTES)))
+        && are_counted(nights, other, dates, start)
+}
+
+/// Whether the period asks no more at `at` than one of those that began at `others`.
+fn is_asked(at: Minute, dates: &[u32], nights: &[u32], start: Minute, others: &[u32]) -> bool
+    ensures { result ≡ list_any (covers_start_test at dates.now nights.now start) others.now }
+{
+    others
+        .iter()
+        .any(|other| covers_start(at, dates, nights, start, *other))
+}
+
+/// Whether the period asks no more at `at` than one of the other, or has its nights already.
+fn covers_period(at: Minute, dates: &[u32], other: &NightLog, start: Minute) -> bool
+    ensures { result ≡ covers_period_test at dates.now other.now start }
+{
+    is_asked(at, dates, other.dates(), start, other.starts())
+        || has_nights(past_period(start), dates, start)
+}
+
+/// Whether each of the periods asks no more at `at` than one of the other, or has its nights already.
+fn are_covered(at: Minute, dates: &[u32], other: &NightLog, starts: &[u32]) -> bool
+    ensures { result ≡ list_all (covers_period_test at dates.now other.now) starts.now }
+{
+    for start in starts {
+        if !covers_period(at, dates, other, *start) {
             return false;
         }
     }
@@ -359,16 +412,19 @@ impl NightLog {
     pub(crate) fn are_kept(&self, at: Minute) -> bool
         ensures { result ≡ nights_ok at self.now }
     {
-        are_kept(at, self.dates(), self.starts())
+        are_kept(
+            u64::from(at) + minutes(AU_NIGHT_REST),
+            self.dates(),
+            self.starts(),
+        )
     }
 
-    /// Whether each open period is one of the other, and each of its nights that has a break there
-    /// has one here.
-    pub(crate) fn covers(&self, other: &NightLog) -> bool
-        ensures { result ≡ covers_nights self.now other.now }
+    /// Whether each open period asks no more at `at` than some period of the other, or has its nights
+    /// already.
+    pub(crate) fn covers(&self, other: &NightLog, at: Minute) -> bool
+        ensures { result ≡ covers_nights at self.now other.now }
     {
-        are_dated(self.starts(), other.starts())
-            && are_counted(other.dates(), self.starts(), self.dates())
+        are_covered(at, self.dates(), other, self.starts())
     }
 
     /// The periods that began so many minutes ago, and the nights of so many days ago.
@@ -387,10 +443,12 @@ impl NightLog {
     }
 
     /// Whether these can be the periods and nights of a history that ends with `run` rest units at
-    /// the minute `at`.
+    /// the minute `at`, and each period has its nights with rest for good.
     pub(crate) fn are_few(&self, run: u32, at: Minute) -> bool
         ensures { result ≡ few_nights_test self.now run at }
     {
-        are_few_starts(self.starts(), run, at) && are_few_dates(self.dates(), at)
+        are_few_starts(self.starts(), run, at)
+            && (are_few_dates(self.dates(), at)
+                && are_kept(next_break(at, run), self.dates(), self.starts()))
     }
 }

@@ -25,7 +25,8 @@ use std::alloc::Global;
 /// than fourteen days, and at each width there are no more limits than starts can have left; each
 /// need asks for the rest of a day or of a week, and there is at most one of either; each period
 /// is open, began before the run in progress and at least seven hours and a quarter after the one
-/// before; and the nights stand in their order, none after today and none before fourteen days.
+/// before; the nights stand in their order, none after today and none before fourteen days; and with
+/// rest that goes on for good each period has its nights.
 #[derive(Drop)]
 pub struct HvnlState {
     /// What the next units may hold, by the counted periods.
@@ -102,11 +103,12 @@ impl HvnlState {
         Ok(true)
     }
 
-    /// Whether the state may stand for the other one: it asks nothing that the other does not ask.
-    pub(crate) fn covers(&self, other: &HvnlState) -> bool
-        ensures { result ≡ covers_state self.now other.now }
+    /// Whether the state may stand for the other one at the minute `at`: it asks nothing that the
+    /// other does not ask.
+    pub(crate) fn covers(&self, other: &HvnlState, at: Minute) -> bool
+        ensures { result ≡ covers_state self.now other.now at }
     {
-        held::covers(&self.held, &other.held) && self.nights.covers(&other.nights)
+        held::covers(&self.held, &other.held) && self.nights.covers(&other.nights, at)
     }
 
     /// Whether the state can be one of a history that ends at the minute `at`.

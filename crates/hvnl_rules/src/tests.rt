@@ -1,6 +1,7 @@
 //! The book's calls, and logs that it goes over.
 use crate::book::HvnlBook;
 use crate::nights::NightLog;
+use crate::state::HvnlState;
 use duty_core::{Activity, Params};
 use rule_core::{Idles, Replayed, RuleBook, replay};
 use std::alloc::Global;
@@ -182,5 +183,90 @@ fn answers_each_call(rt: HostRuntime) -> Result<(), Fail> {
     let copy = book.copy(&root)?;
     assert!(rt; book.covers(&root, &copy, 0));
     assert!(rt; !book.ahead(&root));
+    Ok(())
+}
+
+/// Whether a history that asks nothing and ends with so many rest units may stand for one that ends
+/// with `other` of them.
+fn run_covers(alloc: Global, run: u32, other: u32) -> Result<bool, Fail> {
+    let long = HvnlState::of_numbers(alloc, &[0, 0, 0, run], 15)?;
+    let short = HvnlState::of_numbers(alloc, &[0, 0, 0, other], 15)?;
+    match (long, short) {
+        (Some(long), Some(short)) => Ok(long.covers(&short, 15)),
+        _ => Ok(false),
+    }
+}
+
+#[test]
+fn a_longer_run_covers_from_seven_hours_on(rt: HostRuntime) -> Result<(), Fail> {
+    let alloc = rt.alloc();
+    assert!(rt; run_covers(alloc, 40, 28)?);
+    assert!(rt; run_covers(alloc, 96, 95)?);
+    assert!(rt; run_covers(alloc, 27, 27)?);
+    // The longer run is the first to begin further periods.
+    assert!(rt; !run_covers(alloc, 28, 27)?);
+    assert!(rt; !run_covers(alloc, 1, 0)?);
+    assert!(rt; !run_covers(alloc, 28, 40)?);
+    Ok(())
+}
+
+/// Whether a period that began so many minutes ago asks no more at this minute of a day than another
+/// one, where in both histories no night has a break.
+fn begun_covers(alloc: Global, minute: u32, ago: u32, other: u32) -> Result<bool, Fail> {
+    let at = 20_u32.saturating_mul(1440).saturating_add(minute);
+    let nights = NightLog::of_ago(alloc, at, &[ago], &[])?;
+    let others = NightLog::of_ago(alloc, at, &[other], &[])?;
+    Ok(nights.covers(&others, at))
+}
+
+#[test]
+fn periods_with_the_same_nights_cover(rt: HostRuntime) -> Result<(), Fail> {
+    let alloc = rt.alloc();
+    // At 10:00: both began from 08:00 on.
+    assert!(rt; begun_covers(alloc, 600, 120, 15)?);
+    assert!(rt; begun_covers(alloc, 600, 15, 120)?);
+    // One began before 08:00, and has a night less at its end.
+    assert!(rt; begun_covers(alloc, 600, 120, 135)?);
+    assert!(rt; !begun_covers(alloc, 600, 135, 120)?);
+    // At 23:30: one began after 22:00, and this night does not count in it.
+    assert!(rt; begun_covers(alloc, 1410, 90, 150)?);
+    assert!(rt; !begun_covers(alloc, 1410, 75, 150)?);
+    // At 10:00: the other has an earlier night, and it can get no break any more.
+    assert!(rt; begun_covers(alloc, 600, 2880, 3600)?);
+    Ok(())
+}
+
+/// Whether a period that began ten days ago asks nothing more, where the nights of so many days ago
+/// have breaks.
+fn covers_any(alloc: Global, days: &[u32]) -> Result<bool, Fail> {
+    let at = 20 * 1440 + 600;
+    let nights = NightLog::of_ago(alloc, at, &[14400], days)?;
+    let others = NightLog::new(alloc);
+    Ok(nights.covers(&others, at))
+}
+
+#[test]
+fn a_period_with_its_nights_asks_nothing(rt: HostRuntime) -> Result<(), Fail> {
+    let alloc = rt.alloc();
+    assert!(rt; covers_any(alloc, &[8, 7, 5, 3])?);
+    assert!(rt; !covers_any(alloc, &[8, 7, 5])?);
+    // No two of them are on end.
+    assert!(rt; !covers_any(alloc, &[8, 6, 4, 2])?);
+    // The night of ten days ago began before the period.
+    assert!(rt; !covers_any(alloc, &[10, 7, 6, 5])?);
+    Ok(())
+}
+
+#[test]
+fn a_night_of_the_other_is_one_here(rt: HostRuntime) -> Result<(), Fail> {
+    let alloc = rt.alloc();
+    let at = 20 * 1440 + 600;
+    let one = NightLog::of_ago(alloc, at, &[14400], &[3])?;
+    let two = NightLog::of_ago(alloc, at, &[14400], &[3, 2])?;
+    assert!(rt; two.covers(&one, at));
+    assert!(rt; !one.covers(&two, at));
+    // A later period has not that night.
+    let later = NightLog::of_ago(alloc, at, &[3600], &[2])?;
+    assert!(rt; !later.covers(&one, at));
     Ok(())
 }

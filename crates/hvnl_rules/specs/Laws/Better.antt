@@ -138,8 +138,8 @@ module _ (first : ℕ) (p q : List Activity) (a b : HvnlState) (same : length p 
       let night : IsNightOf first i.0 AU_14D_PERIOD k.0 = record { midnight = date_midnight first k.0 d at; begins = omega arith; ends = omega arith } in
       l.tracks.nights.all_dates k.0 d i.0 s (record { at = at; broken = n.breaks k.0 night k.1.broken }) i.1 night
 
-  better_covered : IsCovered a b
-  better_covered = record {
+  better_covered : (at : ℕ) → IsCovered a b at
+  better_covered at = record {
     held = record {
       run = inl run_same;
       limits = λ r o. limit_given r (one_held a.held.limits r l.tracks.counted.held.limits o) o;
@@ -150,15 +150,20 @@ module _ (first : ℕ) (p q : List Activity) (a b : HvnlState) (same : length p 
           let v = k.3 in
           (k.0, k.1, gives_from k.0 n k.2 (omega arith));
     };
-    nights = record {
-      starts = start_there;
-      dates = λ d s o t x. (let c = and_parts (begins_in d s) (ends_in d s) x in date_there d s o t c.0 c.1);
-    };
+    nights = λ s o. inr (
+      s,
+      start_there s o,
+      record {
+        last = omega arith;
+        first = omega arith;
+        nights = λ d t x. (let c = and_parts (begins_in d s) (ends_in d s) x in (x, date_there d s t o c.0 c.1));
+      },
+    );
   }
 
 -- Each state that h reaches covers each state that k reaches, where h is plainly better than k.
-pub hvnl_better_covers : (first : ℕ) (h : List Activity) (marks : List Mark) (k : List Activity) (others : List Mark) (a b : HvnlState) → IsTimed Hvnl first h → IsTimed Hvnl first k →
-    IsPlainlyBetter Hvnl first h marks k others → HvnlReaches root_state first h marks a → HvnlReaches root_state first k others b → covers_state a b ≡ true
-hvnl_better_covers first h marks k others a b t u g r q =
+pub hvnl_better_covers : (first : ℕ) (h : List Activity) (marks : List Mark) (k : List Activity) (others : List Mark) (a b : HvnlState) (at : ℕ) → IsTimed Hvnl first h → IsTimed Hvnl first k →
+    IsPlainlyBetter Hvnl first h marks k others → HvnlReaches root_state first h marks a → HvnlReaches root_state first k others b → covers_state a b at ≡ true
+hvnl_better_covers first h marks k others a b at t u g r q =
     let len = g.same_length in
-    (covers_means a b).1 (better_covered first (padding Hvnl ++ h) (padding Hvnl ++ k) a b (omega (arith, length-append (padding Hvnl) h, length-append (padding Hvnl) k)) (reached_led first h marks a t r) (reached_led first k others b u q) g.better)
+    (covers_means a b at).1 (better_covered first (padding Hvnl ++ h) (padding Hvnl ++ k) a b (omega (arith, length-append (padding Hvnl) h, length-append (padding Hvnl) k)) (reached_led first h marks a t r) (reached_led first k others b u q) g.better at)

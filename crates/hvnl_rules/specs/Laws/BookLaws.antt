@@ -1,6 +1,7 @@
 -- The book of Australia has the laws of a book.
-use Rattle.std.proofs.Common.{refl}
+use Rattle.std.proofs.Common.{◌+◌, ◌*◌, length, refl}
 use Rattle.duty_core.specs.declared.params.Params.TheVariants.{Hvnl}
+use Rattle.duty_core.specs.Params.{unit_minutes}
 use Rattle.rule_core.specs.Book.{IsBook}
 use Rattle.hvnl_rules.specs.Book.{hvnl_book}
 use Rattle.hvnl_rules.specs.Laws.Steps.{root_is_state, next_is_state, hvnl_advances_reach, hvnl_advances_all}
@@ -20,13 +21,13 @@ hvnl_laws = record {
   advances_all = λ s at x n marks u i. hvnl_advances_all n s at x marks u;
   lasts = record {
     next_is_state = λ s at x n. next_is_state s at x n;
-    covers_on = λ a b c at i j k. hvnl_covers_on a b c;
+    covers_on = λ a b c at i j k. hvnl_covers_on a b c at;
     simulation = λ a b at x n i j h allowed. hvnl_simulation a b at x n j h;
   };
-  covers_itself = λ s at i. hvnl_covers_itself s;
+  covers_itself = λ s at i. hvnl_covers_itself s at;
   idles_allowed = λ s at y i. hvnl_idles_allowed y;
   idles_cover = λ s at x n t i some long idle allowed o. hvnl_idles_cover s at x n t idle allowed o;
-  better_covers = λ first h k marks others a b timed g r q. hvnl_better_covers first h marks k others a b timed (better_timed first h marks k others timed g) g r q;
+  better_covers = λ first h k marks others a b timed g r q. hvnl_better_covers first h marks k others a b (first + unit_minutes Hvnl * length h) timed (better_timed first h marks k others timed g) g r q;
   rests = record {
     ahead_stays = λ a at i e. never e;
     ahead_rests = λ a at x n i e. never e;

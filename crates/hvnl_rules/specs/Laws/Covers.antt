@@ -1,6 +1,6 @@
 -- When one state may stand for another: it asks nothing that the other does not ask.
 use Rattle.std.proofs.Common.{◌≡◌, ◌↔◌, ℕ, ◌+◌, ◌-◌, ◌*◌, ◌<◌, ◌≤◌, Bool, true, false, not, ◌&&◌, ◌||◌, cond, List, [], ◌∷◌, ◌++◌, min, refl, sym, ◌∙◌, ap, subst, arith, ◌⊎◌, inl, inr}
-use Rattle.std.specs.Prelude.{None, Some, All, map, filter, count_by, nat_eq, nat_le, nat_lt}
+use Rattle.std.specs.Prelude.{None, Some, All, map, filter, max, nat_eq, nat_le, nat_lt}
 use Rattle.std.specs.List.{list_all, list_any}
 use Rattle.std.proofs.lemmas.Bool.{cases_Bool, and_parts, and_from, or_cases, or_left, or_right}
 use Rattle.std.proofs.lemmas.Bool.Decides.{nat_tests}
@@ -8,8 +8,8 @@ use Rattle.std.proofs.lemmas.List.Elements.{All-head, All-tail}
 use Rattle.duty_core.specs.declared.activity.Activity.{Activity}
 use Rattle.duty_core.specs.declared.activity.Activity.TheVariants.{Drive, Serve, Wait, Off, Berth}
 use Rattle.duty_core.specs.declared.params.Params.TheVariants.{Hvnl}
-use Rattle.duty_core.specs.declared.limits.TheConstants.{DAY_MINUTES, AU_SHORT_START, AU_LONG_START, AU_7D_REST, AU_14D_PERIOD, AU_14D_NIGHTS, AU_NIGHT_BEFORE, AU_NIGHT_AFTER, AU_NIGHT_REST, AU_NIGHT_LONG_REST}
-use Rattle.duty_core.specs.Params.{allows}
+use Rattle.duty_core.specs.declared.limits.TheConstants.{DAY_MINUTES, AU_SHORT_START, AU_LONG_START, AU_7D_REST, AU_14D_PERIOD, AU_NIGHT_BEFORE, AU_NIGHT_AFTER, AU_NIGHT_REST, AU_NIGHT_LONG_REST}
+use Rattle.duty_core.specs.Params.{unit_minutes, allows}
 use Rattle.duty_core.specs.Activity.{idles}
 use Rattle.allowance.specs.declared.limit.Limit.{Limit}
 use Rattle.allowance.specs.declared.limit.Need.{Need}
@@ -20,12 +20,13 @@ use Rattle.rule_core.specs.Laws.OneOf.{one_of-append, one_of-append_left, one_of
 use Rattle.hvnl_rules.specs.declared.state.HvnlState.{HvnlState}
 use Rattle.hvnl_rules.specs.Counted.{short_limits, long_limits, day_need, week_need, added_all, begun, with_needs, after_duty, after_rest}
 use Rattle.hvnl_rules.specs.Laws.CountedLaws.{begun_held}
-use Rattle.hvnl_rules.specs.Nights.{Nights, minutes, is_running, begins_in, ends_in, lies_in, first_date, end_date, period_dates, is_dated, is_safe, has_four, is_pair, has_two, nights_ok, today, is_rested, dated, pushed, running, still_open}
-use Rattle.hvnl_rules.specs.Laws.Dates.{dated_one, one_dated, any_one, one_any, all_one, one_all, one_filter, filter_one, dates_one, count_cons}
-use Rattle.hvnl_rules.specs.Laws.NightLaws.{dated_cases, dated_starts}
+use Rattle.hvnl_rules.specs.Nights.{Nights, minutes, is_running, begins_in, ends_in, lies_in, first_date, end_date, is_dated, is_safe, has_nights, nights_ok, next_break, past_period, today, is_rested, dated, pushed, running, still_open}
+use Rattle.hvnl_rules.specs.Laws.Dates.{dated_one, one_dated, any_one, one_any, all_one, one_all, one_filter, filter_one}
+use Rattle.hvnl_rules.specs.Laws.NightLaws.{dated_starts}
+use Rattle.hvnl_rules.specs.Laws.KeptNights.{night_in, in_night, nights_moved, nights_carried, nights_for_good, one_of_dated, dated_keeps, dated_new, kept_rest, date_open, kept_open}
 use Rattle.hvnl_rules.specs.Machine.{duty_ok, duty_state, rest_state, plain, hvnl_nexts, hvnl_step, hvnl_advances, hvnl_idles, IsHvnlState}
 use Rattle.hvnl_rules.specs.Laws.Steps.{next_means, step_cases, next_from}
-use Rattle.hvnl_rules.specs.Covers.{covers_run, covers_held, covers_nights, covers_state}
+use Rattle.hvnl_rules.specs.Covers.{covers_run, covers_held, covers_start, covers_period, covers_nights, covers_state}
 
 -- # What it says
 
@@ -37,13 +38,17 @@ pub record IsHeldCovered (a b : Held) : Type 0 where
   pub limits : (q : Limit) → IsOneOf a.limits q → (k : Limit) × IsOneOf b.limits k × (implies k q ≡ true)
   pub needs : (n : Need) → IsOneOf a.needs n → (k : Need) × IsOneOf b.needs k × (gives k n ≡ true)
 
-pub record AreNightsCovered (a b : Nights) : Type 0 where
-  pub starts : (s : ℕ) → IsOneOf a.starts s → IsOneOf b.starts s
-  pub dates : (d s : ℕ) → IsOneOf b.dates d → IsOneOf a.starts s → lies_in d s ≡ true → IsOneOf a.dates d
+pub record IsStartCovered (at : ℕ) (dates others : List ℕ) (start other : ℕ) : Type 0 where
+  pub last : end_date other ≤ end_date start
+  pub first : first_date start ≤ max (first_date other) (today at)
+  pub nights : (d : ℕ) → IsOneOf others d → lies_in d other ≡ true → (lies_in d start ≡ true) × IsOneOf dates d
 
-pub record IsCovered (a b : HvnlState) : Type 0 where
+abbrev pub AreNightsCovered : ℕ → Nights → Nights → Type 0
+AreNightsCovered at a b = (s : ℕ) → IsOneOf a.starts s → (has_nights (past_period s) a.dates s ≡ true) ⊎ ((t : ℕ) × IsOneOf b.starts t × IsStartCovered at a.dates b.dates s t)
+
+pub record IsCovered (a b : HvnlState) (at : ℕ) : Type 0 where
   pub held : IsHeldCovered a.held b.held
-  pub nights : AreNightsCovered a.nights b.nights
+  pub nights : AreNightsCovered at a.nights b.nights
 
 run_means : (a b : ℕ) → covers_run a b ≡ true → IsRunCovered a b
 run_means a b e = elim (or_cases (nat_eq a b) (nat_le AU_LONG_START b && nat_le b a) e) [
@@ -78,35 +83,55 @@ means_held a b h =
     (one_all (λ q. list_any (λ k. implies k q) b.limits) a.limits (λ q o. let g = h.limits q o in one_any (λ k. implies k q) b.limits g.0 g.1 g.2))
     (one_all (λ n. list_any (λ k. gives k n) b.needs) a.needs (λ n o. let g = h.needs n o in one_any (λ k. gives k n) b.needs g.0 g.1 g.2)))
 
-nights_means : (a b : Nights) → covers_nights a b ≡ true → AreNightsCovered a b
-nights_means a b h =
-    let S = list_all (is_dated b.starts) a.starts in
-    let D = list_all (λ d. not (list_any (lies_in d) a.starts) || is_dated a.dates d) b.dates in
-    let c = and_parts S D h in
+start_means : (at : ℕ) (dates others : List ℕ) (s t : ℕ) → covers_start at dates others s t ≡ true → IsStartCovered at dates others s t
+start_means at dates others s t h =
+    let E = nat_le (end_date t) (end_date s) in
+    let F = nat_le (first_date s) (max (first_date t) (today at)) in
+    let D = list_all (λ d. not (lies_in d t) || (lies_in d s && is_dated dates d)) others in
+    let c = and_parts (E && F) D h in
+    let e = and_parts E F c.0 in
+    let e0 = e.0 in
+    let e1 = e.1 in
     record {
-      starts = λ s o. dated_one b.starts s (all_one (is_dated b.starts) a.starts c.0 s o);
-      dates = λ d s o m e. elim (or_cases (not (list_any (lies_in d) a.starts)) (is_dated a.dates d) (all_one (λ d. not (list_any (lies_in d) a.starts) || is_dated a.dates d) b.dates c.1 d o)) [
-        | inl z ↦ absurd (let y : list_any (lies_in d) a.starts ≡ true = one_any (lies_in d) a.starts s m e in let w : false ≡ true = sym (ap not y) ∙ z in cc)
-        | inr y ↦ dated_one a.dates d y
+      last = grind (arith, nat_tests);
+      first = grind (arith, nat_tests);
+      nights = λ d o y. elim (or_cases (not (lies_in d t)) (lies_in d s && is_dated dates d) (all_one (λ d. not (lies_in d t) || (lies_in d s && is_dated dates d)) others c.1 d o)) [
+        | inl z ↦ absurd (let w : false ≡ true = sym (ap not y) ∙ z in cc)
+        | inr z ↦ (let p = and_parts (lies_in d s) (is_dated dates d) z in (p.0, dated_one dates d p.1))
       ];
     }
 
-means_nights : (a b : Nights) → AreNightsCovered a b → covers_nights a b ≡ true
-means_nights a b h =
-    let S = list_all (is_dated b.starts) a.starts in
-    let D = list_all (λ d. not (list_any (lies_in d) a.starts) || is_dated a.dates d) b.dates in
-    and_from S D (one_all (is_dated b.starts) a.starts (λ s o. one_dated b.starts s (h.starts s o)))
-    (one_all (λ d. not (list_any (lies_in d) a.starts) || is_dated a.dates d) b.dates (λ d o. elim (cases_Bool (list_any (lies_in d) a.starts)) [
-      | inl y ↦
-          let g = any_one (lies_in d) a.starts y in
-          or_right (not (list_any (lies_in d) a.starts)) (is_dated a.dates d) (one_dated a.dates d (h.dates d g.0 o g.1 g.2))
-      | inr z ↦ or_left (not (list_any (lies_in d) a.starts)) (is_dated a.dates d) (ap not z)
+means_start : (at : ℕ) (dates others : List ℕ) (s t : ℕ) → IsStartCovered at dates others s t → covers_start at dates others s t ≡ true
+means_start at dates others s t h =
+    let E = nat_le (end_date t) (end_date s) in
+    let F = nat_le (first_date s) (max (first_date t) (today at)) in
+    let D = list_all (λ d. not (lies_in d t) || (lies_in d s && is_dated dates d)) others in
+    let l = h.last in
+    let f = h.first in
+    and_from (E && F) D (and_from E F (grind (arith, nat_tests)) (grind (arith, nat_tests)))
+    (one_all (λ d. not (lies_in d t) || (lies_in d s && is_dated dates d)) others (λ d o. elim (cases_Bool (lies_in d t)) [
+      | inl y ↦ (let q = h.nights d o y in or_right (not (lies_in d t)) (lies_in d s && is_dated dates d) (and_from (lies_in d s) (is_dated dates d) q.0 (one_dated dates d q.1)))
+      | inr z ↦ or_left (not (lies_in d t)) (lies_in d s && is_dated dates d) (ap not z)
     ]))
 
-pub covers_means : (a b : HvnlState) → (covers_state a b ≡ true) ↔ IsCovered a b
-covers_means a b = (
-  (λ h. let c = and_parts (covers_held a.held b.held) (covers_nights a.nights b.nights) h in record { held = held_means a.held b.held c.0; nights = nights_means a.nights b.nights c.1 }),
-  (λ h. and_from (covers_held a.held b.held) (covers_nights a.nights b.nights) (means_held a.held b.held h.held) (means_nights a.nights b.nights h.nights)),
+nights_means : (at : ℕ) (a b : Nights) → covers_nights at a b ≡ true → AreNightsCovered at a b
+nights_means at a b h s o =
+    elim (or_cases (list_any (covers_start at a.dates b.dates s) b.starts) (has_nights (past_period s) a.dates s)
+    (all_one (covers_period at a.dates b) a.starts h s o)) [
+      | inl y ↦ (let g = any_one (covers_start at a.dates b.dates s) b.starts y in inr (g.0, g.1, start_means at a.dates b.dates s g.0 g.2))
+      | inr y ↦ inl y
+    ]
+
+means_nights : (at : ℕ) (a b : Nights) → AreNightsCovered at a b → covers_nights at a b ≡ true
+means_nights at a b h = one_all (covers_period at a.dates b) a.starts (λ s o. elim (h s o) [
+  | inl y ↦ or_right (list_any (covers_start at a.dates b.dates s) b.starts) (has_nights (past_period s) a.dates s) y
+  | inr y ↦ or_left (list_any (covers_start at a.dates b.dates s) b.starts) (has_nights (past_period s) a.dates s) (one_any (covers_start at a.dates b.dates s) b.starts y.0 y.1 (means_start at a.dates b.dates s y.0 y.2))
+])
+
+pub covers_means : (a b : HvnlState) (at : ℕ) → (covers_state a b at ≡ true) ↔ IsCovered a b at
+covers_means a b at = (
+  (λ h. let c = and_parts (covers_held a.held b.held) (covers_nights at a.nights b.nights) h in record { held = held_means a.held b.held c.0; nights = nights_means at a.nights b.nights c.1 }),
+  (λ h. and_from (covers_held a.held b.held) (covers_nights at a.nights b.nights) (means_held a.held b.held h.held) (means_nights at a.nights b.nights h.nights)),
 )
 
 -- # Reflexive and transitive
@@ -159,30 +184,51 @@ run_on a b c h g = elim g [
 run_more : (a b : ℕ) → IsRunCovered a b → IsRunCovered (min (one_more a) AU_7D_REST) (min (one_more b) AU_7D_REST)
 run_more a b h = elim h [ inl e ↦ inl (ap (λ r. min (one_more r) AU_7D_REST) e) | inr r ↦ (let l = r.0 in let m = r.1 in inr (omega arith, omega arith)) ]
 
-covered_itself : (s : HvnlState) → IsCovered s s
-covered_itself s = record {
+start_itself : (at : ℕ) (dates : List ℕ) (s : ℕ) → IsStartCovered at dates dates s s
+start_itself at dates s = record { last = omega arith; first = omega arith; nights = λ d o e. (e, o) }
+
+start_on : (at : ℕ) (ds es fs : List ℕ) (s t u : ℕ) → IsStartCovered at ds es s t → IsStartCovered at es fs t u → IsStartCovered at ds fs s u
+start_on at ds es fs s t u h g =
+    let hl = h.last in
+    let gl = g.last in
+    let hf = h.first in
+    let gf = g.first in
+    record {
+      last = omega arith;
+      first = omega arith;
+      nights = λ d o e. (let q = g.nights d o e in h.nights d q.1 q.0);
+    }
+
+nights_on : (at : ℕ) (a b c : Nights) → AreNightsCovered at a b → AreNightsCovered at b c → AreNightsCovered at a c
+nights_on at a b c h g s o = elim (h s o) [
+  | inl y ↦ inl y
+  | inr y ↦ elim (g y.0 y.1) [
+    | inl z ↦ inl (nights_carried (past_period y.0) b.dates a.dates y.0 s (omega arith) y.2.nights z)
+    | inr z ↦ inr (z.0, z.1, start_on at a.dates b.dates c.dates s y.0 z.0 y.2 z.2)
+  ]
+]
+
+covered_itself : (s : HvnlState) (at : ℕ) → IsCovered s s at
+covered_itself s at = record {
   held = record { run = inl refl; limits = λ q o. (q, o, implies_itself q); needs = λ n o. (n, o, gives_itself n) };
-  nights = record { starts = λ t o. o; dates = λ d t o m e. o };
+  nights = λ t o. inr (t, o, start_itself at s.nights.dates t);
 }
 
-covered_on : (a b c : HvnlState) → IsCovered a b → IsCovered b c → IsCovered a c
-covered_on a b c h g = record {
+covered_on : (a b c : HvnlState) (at : ℕ) → IsCovered a b at → IsCovered b c at → IsCovered a c at
+covered_on a b c at h g = record {
   held = record {
     run = run_on a.held.run b.held.run c.held.run h.held.run g.held.run;
     limits = λ q o. (let k = h.held.limits q o in let l = g.held.limits k.0 k.1 in (l.0, l.1, implies_on l.0 k.0 q l.2 k.2));
     needs = λ n o. (let k = h.held.needs n o in let l = g.held.needs k.0 k.1 in (l.0, l.1, gives_on l.0 k.0 n l.2 k.2));
   };
-  nights = record {
-    starts = λ s o. g.nights.starts s (h.nights.starts s o);
-    dates = λ d s o m e. h.nights.dates d s (g.nights.dates d s o (h.nights.starts s m) e) m e;
-  };
+  nights = nights_on at a.nights b.nights c.nights h.nights g.nights;
 }
 
-pub hvnl_covers_itself : (s : HvnlState) → covers_state s s ≡ true
-hvnl_covers_itself s = (covers_means s s).1 (covered_itself s)
+pub hvnl_covers_itself : (s : HvnlState) (at : ℕ) → covers_state s s at ≡ true
+hvnl_covers_itself s at = (covers_means s s at).1 (covered_itself s at)
 
-pub hvnl_covers_on : (a b c : HvnlState) → covers_state a b ≡ true → covers_state b c ≡ true → covers_state a c ≡ true
-hvnl_covers_on a b c h g = (covers_means a c).1 (covered_on a b c ((covers_means a b).0 h) ((covers_means b c).0 g))
+pub hvnl_covers_on : (a b c : HvnlState) (at : ℕ) → covers_state a b at ≡ true → covers_state b c at ≡ true → covers_state a c at ≡ true
+hvnl_covers_on a b c at h g = (covers_means a c at).1 (covered_on a b c at ((covers_means a b at).0 h) ((covers_means b c at).0 g))
 
 -- # Limits and needs that are added
 
@@ -382,81 +428,61 @@ covered_duty a b i e h =
 
 -- # Nights
 
-count_less : (t u : ℕ → Bool) (ds : List ℕ) → ((d : ℕ) → IsOneOf ds d → t d ≡ true → u d ≡ true) → count_by t ds ≤ count_by u ds
-count_less t u [] h = omega arith
-count_less t u (d ∷ ds) h =
-    let a = count_cons t d ds in
-    let b = count_cons u d ds in
-    let q = count_less t u ds (λ k o e. h k (inr o) e) in
-    elim (cases_Bool (t d)) [
+-- a night of the other's period that is safe there is one of this, and is safe here
+safe_covered : (at : ℕ) (a b : Nights) (s t d : ℕ) → IsStartCovered at a.dates b.dates s t → first_date t ≤ d → d < end_date t → is_safe (at + minutes AU_NIGHT_REST) b.dates d ≡ true →
+    (first_date s ≤ d) × (d < end_date s) × (is_safe (at + minutes AU_NIGHT_REST) a.dates d ≡ true)
+safe_covered at a b s t d h l r e =
+    let S = nat_le (at + minutes AU_NIGHT_REST) (DAY_MINUTES * d + minutes AU_NIGHT_AFTER) in
+    elim (or_cases (is_dated b.dates d) S e) [
       | inl y ↦
-          let c : cond {A = ℕ} (t d) 1 0 ≡ 1 = ap (λ b. cond {A = ℕ} b 1 0) y in
-          let e : cond {A = ℕ} (u d) 1 0 ≡ 1 = ap (λ b. cond {A = ℕ} b 1 0) (h d (inl refl) y) in
-          omega arith
-      | inr n ↦ (let c : cond {A = ℕ} (t d) 1 0 ≡ 0 = ap (λ b. cond {A = ℕ} b 1 0) n in omega arith)
+          let q = h.nights d (dated_one b.dates d y) (in_night d t l r) in
+          let i = night_in d s q.0 in
+          (i.0, i.1, or_left (is_dated a.dates d) S (one_dated a.dates d q.1))
+      | inr y ↦
+          let m : at + minutes AU_NIGHT_REST ≤ DAY_MINUTES * d + minutes AU_NIGHT_AFTER = grind (arith, nat_tests) in
+          let last = h.last in
+          let first = h.first in
+          let come : today at ≤ d = omega arith in
+          (omega arith, omega arith, or_right (is_dated a.dates d) S y)
     ]
 
--- a night of the period that is safe there is safe here
-safe_covered : (at : ℕ) (a b : Nights) (s d : ℕ) → AreNightsCovered a b → IsOneOf a.starts s → first_date s ≤ d → d < end_date s → is_safe at b.dates d ≡ true → is_safe at a.dates d ≡ true
-safe_covered at a b s d h o l r e = elim (or_cases (is_dated b.dates d) _ e) [
-  | inl y ↦
-      let begins : s + minutes AU_NIGHT_BEFORE ≤ DAY_MINUTES * d = omega arith in
-      let ends : DAY_MINUTES * d + minutes AU_NIGHT_AFTER ≤ s + minutes AU_14D_PERIOD = omega arith in
-      or_left (is_dated a.dates d) _ (one_dated a.dates d (h.dates d s (dated_one b.dates d y) o (and_from (begins_in d s) (ends_in d s) (grind (arith, nat_tests)) (grind (arith, nat_tests)))))
-  | inr y ↦ or_right (is_dated a.dates d) _ y
-]
+ok_covered : (at : ℕ) (a b : Nights) → AreNightsCovered at a b → nights_ok at b ≡ true → nights_ok at a ≡ true
+ok_covered at a b h e = one_all (has_nights (at + minutes AU_NIGHT_REST) a.dates) a.starts (λ s o. elim (h s o) [
+  | inl y ↦ nights_for_good (at + minutes AU_NIGHT_REST) a.dates s y
+  | inr y ↦
+      nights_moved (at + minutes AU_NIGHT_REST) (at + minutes AU_NIGHT_REST) b.dates a.dates y.0 s (λ d l r z. safe_covered at a b s y.0 d y.2 l r z)
+      (all_one (has_nights (at + minutes AU_NIGHT_REST) b.dates) b.starts e y.0 y.1)
+])
 
-ok_covered : (at : ℕ) (a b : Nights) → AreNightsCovered a b → nights_ok at b ≡ true → nights_ok at a ≡ true
-ok_covered at a b h e = one_all (λ start. has_four at a.dates start && has_two at a.dates start) a.starts (λ s o.
-    let c = and_parts (has_four at b.dates s) (has_two at b.dates s) (all_one (λ start. has_four at b.dates start && has_two at b.dates start) b.starts e s (h.starts s o)) in
-    let more : (d : ℕ) → IsOneOf (period_dates s) d → is_safe at b.dates d ≡ true → is_safe at a.dates d ≡ true = (λ d i y. (let k = dates_one (first_date s) (end_date s - first_date s) d i in let lo = k.0 in let hi = k.1 in safe_covered at a b s d h o lo (omega arith) y)) in
-    let four = c.0 in
-    let least : AU_14D_NIGHTS ≤ count_by (is_safe at b.dates) (period_dates s) = grind (arith, nat_tests) in
-    let less = count_less (is_safe at b.dates) (is_safe at a.dates) (period_dates s) more in
-    let enough : AU_14D_NIGHTS ≤ count_by (is_safe at a.dates) (period_dates s) = omega arith in
-    let g = any_one (is_pair at b.dates s) (period_dates s) c.1 in
-    let p = and_parts (is_safe at b.dates g.0 && is_safe at b.dates (g.0 + 1)) (ends_in (g.0 + 1) s) g.2 in
-    let q = and_parts (is_safe at b.dates g.0) (is_safe at b.dates (g.0 + 1)) p.0 in
-    let inside = dates_one (first_date s) (end_date s - first_date s) g.0 g.1 in
-    let lo = inside.0 in
-    let hi = inside.1 in
-    let last = p.1 in
-    let ends : DAY_MINUTES * (g.0 + 1) + minutes AU_NIGHT_AFTER ≤ s + minutes AU_14D_PERIOD = grind (arith, nat_tests) in
-    and_from (has_four at a.dates s) (has_two at a.dates s) (grind (arith, nat_tests))
-    (one_any (is_pair at a.dates s) (period_dates s) g.0 g.1
-    (and_from (is_safe at a.dates g.0 && is_safe at a.dates (g.0 + 1)) (ends_in (g.0 + 1) s)
-    (and_from (is_safe at a.dates g.0) (is_safe at a.dates (g.0 + 1)) (safe_covered at a b s g.0 h o lo (omega arith) q.0) (safe_covered at a b s (g.0 + 1) h o (omega arith) (omega arith) q.1)) p.1)))
+-- at a later minute fewer nights may get a break yet
+covered_later : (at later : ℕ) (a b : Nights) → at ≤ later → AreNightsCovered at a b → AreNightsCovered later a b
+covered_later at later a b l h s o = elim (h s o) [
+  | inl y ↦ inl y
+  | inr y ↦ (let f = y.2.first in inr (y.0, y.1, record { last = y.2.last; first = omega arith; nights = y.2.nights }))
+]
 
 one_below : (at : ℕ) (ds : List ℕ) (d : ℕ) → All (λ d. DAY_MINUTES * d ≤ at) ds → IsOneOf ds d → DAY_MINUTES * d ≤ at
 one_below at [] d a o = absurd o
 one_below at (k ∷ ds) d a o = elim o [ inl e ↦ subst (λ d. DAY_MINUTES * d ≤ at) e (All-head (λ d. DAY_MINUTES * d ≤ at) k ds a) | inr r ↦ one_below at ds d (All-tail (λ d. DAY_MINUTES * d ≤ at) k ds a) r ]
 
-covered_pushed : (at run : ℕ) (a b : Nights) → All (λ d. DAY_MINUTES * d ≤ at) b.dates → AreNightsCovered a b → AreNightsCovered (pushed at run a) (pushed at run b)
-covered_pushed at run a b below h = elim (nat_le AU_LONG_START run) as (λ t. AreNightsCovered (cond t (record a { starts = a.starts ++ at ∷ [] }) a) (cond t (record b { starts = b.starts ++ at ∷ [] }) b)) [
-  | true ↦ record {
-    starts = λ s o. elim (one_of-append a.starts (at ∷ []) s o) [ inl y ↦ one_of-append_left b.starts (at ∷ []) s (h.starts s y) | inr y ↦ one_of-append_right b.starts (at ∷ []) s y ];
-    dates = λ d s o m e. elim (one_of-append a.starts (at ∷ []) s m) [
-      | inl y ↦ h.dates d s o y e
-      | inr y ↦ absurd (elim y [ inl f ↦ (let l = one_below at b.dates d below o in let k = (and_parts (begins_in d s) (ends_in d s) e).0 in let begins : s + minutes AU_NIGHT_BEFORE ≤ DAY_MINUTES * d = grind (arith, nat_tests) in omega arith) | inr z ↦ absurd z ])
-    ];
-  }
+covered_pushed : (at run : ℕ) (a b : Nights) → All (λ d. DAY_MINUTES * d ≤ at) b.dates → AreNightsCovered at a b → AreNightsCovered at (pushed at run a) (pushed at run b)
+covered_pushed at run a b below h = elim (nat_le AU_LONG_START run) as (λ t. AreNightsCovered at (cond t (record a { starts = a.starts ++ at ∷ [] }) a) (cond t (record b { starts = b.starts ++ at ∷ [] }) b)) [
+  | true ↦ λ s o. elim (one_of-append a.starts (at ∷ []) s o) [
+    | inl y ↦ elim (h s y) [ inl z ↦ inl z | inr z ↦ inr (z.0, one_of-append_left b.starts (at ∷ []) z.0 z.1, z.2) ]
+    | inr y ↦ inr (
+      s,
+      one_of-append_right b.starts (at ∷ []) s y,
+      record {
+        last = omega arith;
+        first = omega arith;
+        nights = λ d i e. absurd (elim y [
+          | inl f ↦ (let l = one_below at b.dates d below i in let k = (and_parts (begins_in d s) (ends_in d s) e).0 in let begins : s + minutes AU_NIGHT_BEFORE ≤ DAY_MINUTES * d = grind (arith, nat_tests) in omega arith)
+          | inr z ↦ absurd z
+        ]);
+      },
+    )
+  ]
   | false ↦ h
-]
-
--- the date of a rest unit
-one_of_dated : (at run : ℕ) (n : Nights) (d : ℕ) → IsOneOf (dated at run n).dates d → IsOneOf n.dates d ⊎ ((today at ≡ d) × (is_rested at run (today at) ≡ true))
-one_of_dated at run n d o = elim (dated_cases at run n) [
-  | inl c ↦ elim (one_of-append n.dates (today at ∷ []) d (subst (λ k. IsOneOf k.dates d) c.2 o)) [ inl y ↦ inl y | inr y ↦ elim y [ inl e ↦ inr (e, c.0) | inr z ↦ absurd z ] ]
-  | inr c ↦ inl (subst (λ k. IsOneOf k.dates d) c.0 o)
-]
-
-dated_keeps : (at run : ℕ) (n : Nights) (d : ℕ) → IsOneOf n.dates d → IsOneOf (dated at run n).dates d
-dated_keeps at run n d o = elim (dated_cases at run n) [ inl c ↦ subst (λ k. IsOneOf k.dates d) (sym c.2) (one_of-append_left n.dates (today at ∷ []) d o) | inr c ↦ subst (λ k. IsOneOf k.dates d) (sym c.0) o ]
-
-dated_new : (at run : ℕ) (n : Nights) → is_rested at run (today at) ≡ true → IsOneOf (dated at run n).dates (today at)
-dated_new at run n e = elim (dated_cases at run n) [
-  | inl c ↦ subst (λ k. IsOneOf k.dates (today at)) (sym c.2) (one_of-append_right n.dates (today at ∷ []) (today at) (inl refl))
-  | inr c ↦ subst (λ k. IsOneOf k.dates (today at)) (sym c.0) (dated_one n.dates (today at) (c.1 e))
 ]
 
 -- the longer rest gives each night its break
@@ -479,61 +505,104 @@ rested_longer at more run date l e =
           or_right (nat_le AU_NIGHT_REST more && P) (nat_le AU_NIGHT_LONG_REST more && Q) (and_from (nat_le AU_NIGHT_LONG_REST more) Q (grind (arith, nat_tests)) c.1)
     ]
 
-covered_dated : (at more run : ℕ) (a b : Nights) → run ≤ more → AreNightsCovered a b → AreNightsCovered (dated at more a) (dated at run b)
-covered_dated at more run a b l h = record {
-  starts = λ s o. subst (λ l. IsOneOf l s) (sym (dated_starts at run b)) (h.starts s (subst (λ l. IsOneOf l s) (dated_starts at more a) o));
-  dates = λ d s o m e. elim (one_of_dated at run b d o) [
-    | inl y ↦ dated_keeps at more a d (h.dates d s y (subst (λ l. IsOneOf l s) (dated_starts at more a) m) e)
-    | inr y ↦ subst (IsOneOf (dated at more a).dates) y.0 (dated_new at more a (rested_longer at more run (today at) l y.1))
-  ];
-}
+covered_dated : (at more run : ℕ) (a b : Nights) → run ≤ more → AreNightsCovered at a b → AreNightsCovered at (dated at more a) (dated at run b)
+covered_dated at more run a b l h s o = elim (h s (subst (λ k. IsOneOf k s) (dated_starts at more a) o)) [
+  | inl y ↦ inl (nights_carried (past_period s) a.dates (dated at more a).dates s s (omega arith) (λ d i e. (e, dated_keeps at more a d i)) y)
+  | inr y ↦ inr (
+    y.0,
+    subst (λ k. IsOneOf k y.0) (sym (dated_starts at run b)) y.1,
+    record {
+      last = y.2.last;
+      first = y.2.first;
+      nights = λ d i e. elim (one_of_dated at run b d i) [
+        | inl z ↦ (let q = y.2.nights d z e in (q.0, dated_keeps at more a d q.1))
+        | inr z ↦
+            let in_other = night_in d y.0 e in
+            let lo = in_other.0 in
+            let hi = in_other.1 in
+            let last = y.2.last in
+            let first = y.2.first in
+            let now = z.0 in
+            (in_night d s (omega arith) (omega arith), subst (IsOneOf (dated at more a).dates) z.0 (dated_new at more a (rested_longer at more run (today at) l z.1)))
+      ];
+    },
+  )
+]
 
-covered_open : (at : ℕ) (a b : Nights) → AreNightsCovered a b → AreNightsCovered (still_open at a) (still_open at b)
-covered_open at a b h = record {
-  starts = λ s o. (let f = filter_one (is_running at) a.starts s o in one_filter (is_running at) b.starts s f.1 (h.starts s f.0));
-  dates = λ d s o m e.
-      let f = filter_one (λ date. list_any (lies_in date) (running at b.starts)) b.dates d o in
-      let g = filter_one (is_running at) a.starts s m in
-      one_filter (λ date. list_any (lies_in date) (running at a.starts)) a.dates d (one_any (lies_in d) (running at a.starts) s m e) (h.dates d s f.0 g.0 e);
-}
+-- A period that is over has its nights for good.
+covered_open : (at : ℕ) (a b : Nights) → ((t : ℕ) → IsOneOf b.starts t → is_running at t ≡ false → has_nights (past_period t) b.dates t ≡ true) → AreNightsCovered at a b → AreNightsCovered at (still_open at a) (still_open at b)
+covered_open at a b over h s o =
+    let f = filter_one (is_running at) a.starts s o in
+    elim (h s f.0) [
+      | inl y ↦ inl (kept_open at (past_period s) a s f.1 f.0 y)
+      | inr y ↦ elim (cases_Bool (is_running at y.0)) [
+        | inl r ↦ inr (
+          y.0,
+          one_filter (is_running at) b.starts y.0 r y.1,
+          record {
+            last = y.2.last;
+            first = y.2.first;
+            nights = λ d i e. (let g = filter_one (λ date. list_any (lies_in date) (running at b.starts)) b.dates d i in let q = y.2.nights d g.0 e in (q.0, date_open at a d s f.1 f.0 q.0 q.1));
+          },
+        )
+        | inr r ↦ inl (nights_carried (past_period y.0) b.dates (still_open at a).dates y.0 s (omega arith) (λ d i e. (let q = y.2.nights d i e in (q.0, date_open at a d s f.1 f.0 q.0 q.1))) (over y.0 y.1 r))
+      ]
+    ]
+
+-- the other's periods that are over had their nights
+over_by : (at so : ℕ) (n : Nights) (t : ℕ) → at < so → is_running at t ≡ false → has_nights so n.dates t ≡ true → has_nights (past_period t) n.dates t ≡ true
+over_by at so n t l r e =
+    let m : t + minutes AU_14D_PERIOD ≤ at = grind (arith, nat_tests) in
+    nights_carried so n.dates n.dates t t (omega arith) (λ d i y. (y, i)) e
 
 -- # Simulation
 
-covered_duty_state : (a b : HvnlState) (at : ℕ) → IsHvnlState b at → duty_ok b at ≡ true → IsCovered a b → (duty_ok a at ≡ true) × IsCovered (duty_state a at) (duty_state b at)
+covered_duty_state : (a b : HvnlState) (at : ℕ) → IsHvnlState b at → duty_ok b at ≡ true → IsCovered a b at → (duty_ok a at ≡ true) × IsCovered (duty_state a at) (duty_state b at) (at + minutes 1)
 covered_duty_state a b at i e h =
     let c = and_parts (may_spend (begun b.held)) (nights_ok (at + minutes 1) (pushed at b.held.run b.nights)) e in
-    let n : AreNightsCovered (pushed at a.held.run a.nights) (pushed at b.held.run b.nights) =
-    subst (λ t. AreNightsCovered (cond t (record a.nights { starts = a.nights.starts ++ at ∷ [] }) a.nights) (pushed at b.held.run b.nights)) (same_start AU_LONG_START a.held.run b.held.run (omega arith) h.held.run) (covered_pushed at b.held.run a.nights b.nights i.dates h.nights) in (
+    let m : AreNightsCovered at (pushed at a.held.run a.nights) (pushed at b.held.run b.nights) =
+    subst (λ t. AreNightsCovered at (cond t (record a.nights { starts = a.nights.starts ++ at ∷ [] }) a.nights) (pushed at b.held.run b.nights)) (same_start AU_LONG_START a.held.run b.held.run (omega arith) h.held.run)
+    (covered_pushed at b.held.run a.nights b.nights i.dates h.nights) in
+    let n = covered_later at (at + minutes 1) (pushed at a.held.run a.nights) (pushed at b.held.run b.nights) (omega arith) m in (
       and_from (may_spend (begun a.held)) (nights_ok (at + minutes 1) (pushed at a.held.run a.nights)) (covered_may (begun a.held) (begun b.held) (covered_begun a.held b.held h.held) c.0)
           (ok_covered (at + minutes 1) (pushed at a.held.run a.nights) (pushed at b.held.run b.nights) n c.1),
       record {
         held = covered_duty a.held b.held i.held c.0 h.held;
-        nights = covered_open (at + minutes 1) (pushed at a.held.run a.nights) (pushed at b.held.run b.nights) n;
+        nights = covered_open (at + minutes 1) (pushed at a.held.run a.nights) (pushed at b.held.run b.nights)
+            (λ t o r. over_by (at + minutes 1) (at + minutes 1 + minutes AU_NIGHT_REST) (pushed at b.held.run b.nights) t (omega arith) r
+            (all_one (has_nights (at + minutes 1 + minutes AU_NIGHT_REST) (pushed at b.held.run b.nights).dates) (pushed at b.held.run b.nights).starts c.1 t o)) n;
       },
     )
 
-covered_rest_state : (a b : HvnlState) (at : ℕ) → IsHvnlState b at → IsCovered a b → IsCovered (rest_state a at) (rest_state b at)
+covered_rest_state : (a b : HvnlState) (at : ℕ) → IsHvnlState b at → IsCovered a b at → IsCovered (rest_state a at) (rest_state b at) (at + minutes 1)
 covered_rest_state a b at i h =
     let c = covered_passed a.held b.held i.held h.held in
+    let more : ℕ = (after_rest a.held).run in
+    let run : ℕ = (after_rest b.held).run in
+    let few = i.run in
+    let n = covered_later at (at + minutes 1) (dated at more a.nights) (dated at run b.nights) (omega arith) (covered_dated at more run a.nights b.nights (run_less more run c.run) h.nights) in
     record {
       held = c;
-      nights = covered_open (at + minutes 1) (dated at (after_rest a.held).run a.nights) (dated at (after_rest b.held).run b.nights)
-          (covered_dated at (after_rest a.held).run (after_rest b.held).run a.nights b.nights (run_less (after_rest a.held).run (after_rest b.held).run c.run) h.nights);
+      nights = covered_open (at + minutes 1) (dated at more a.nights) (dated at run b.nights)
+          (λ t o r. over_by (at + minutes 1) (next_break (at + minutes 1) run) (dated at run b.nights) t (omega arith) r
+          (kept_rest at b.held.run run b.nights t (omega arith)
+          (all_one (has_nights (next_break at b.held.run) b.nights.dates) b.nights.starts i.few_nights.kept t (subst (λ k. IsOneOf k t) (dated_starts at run b.nights) o)))) n;
     }
 
-step_covered : (a b : HvnlState) (at : ℕ) (x : Activity) (t : HvnlState) → IsHvnlState b at → IsCovered a b → hvnl_step b at x ≡ Some t → (u : HvnlState) × (hvnl_step a at x ≡ Some u) × IsCovered u t
+step_covered : (a b : HvnlState) (at : ℕ) (x : Activity) (t : HvnlState) → IsHvnlState b at → IsCovered a b at → hvnl_step b at x ≡ Some t → (u : HvnlState) × (hvnl_step a at x ≡ Some u) × IsCovered u t (at + minutes 1)
 step_covered a b at x t i h e = elim (step_cases b at x t e) [
   | inl c ↦
       let d = covered_duty_state a b at i c.1 h in
-      (duty_state a at, ap (λ w. cond w (cond (duty_ok a at) (Some (duty_state a at)) None) (Some (rest_state a at))) c.0 ∙ ap (λ w. cond w (Some (duty_state a at)) None) d.0, subst (IsCovered (duty_state a at)) c.2 d.1)
-  | inr c ↦ (rest_state a at, ap (λ w. cond w (cond (duty_ok a at) (Some (duty_state a at)) None) (Some (rest_state a at))) c.0, subst (IsCovered (rest_state a at)) c.1 (covered_rest_state a b at i h))
+      (duty_state a at, ap (λ w. cond w (cond (duty_ok a at) (Some (duty_state a at)) None) (Some (rest_state a at))) c.0 ∙ ap (λ w. cond w (Some (duty_state a at)) None) d.0, subst (λ k. IsCovered (duty_state a at) k (at + minutes 1)) c.2 d.1)
+  | inr c ↦
+      (rest_state a at, ap (λ w. cond w (cond (duty_ok a at) (Some (duty_state a at)) None) (Some (rest_state a at))) c.0, subst (λ k. IsCovered (rest_state a at) k (at + minutes 1)) c.1 (covered_rest_state a b at i h))
 ]
 
-pub hvnl_simulation : (a b : HvnlState) (at : ℕ) (x : Activity) (n : Next HvnlState) → IsHvnlState b at → covers_state a b ≡ true → IsOneOf (hvnl_nexts b at x) n → IsAnswered (hvnl_nexts a at x) (λ t. covers_state t n.state)
+pub hvnl_simulation : (a b : HvnlState) (at : ℕ) (x : Activity) (n : Next HvnlState) → IsHvnlState b at → covers_state a b at ≡ true → IsOneOf (hvnl_nexts b at x) n → IsAnswered (hvnl_nexts a at x) (λ t. covers_state t n.state (at + unit_minutes Hvnl))
 hvnl_simulation a b at x n i h o =
     let m = next_means b at x n o in
-    let q = step_covered a b at x n.state i ((covers_means a b).0 h) m.0 in
-    (plain q.0, next_from a at x q.0 q.1, (covers_means q.0 n.state).1 q.2)
+    let q = step_covered a b at x n.state i ((covers_means a b at).0 h) m.0 in
+    (plain q.0, next_from a at x q.0 q.1, (covers_means q.0 n.state (at + minutes 1)).1 q.2)
 
 -- # Idle activities
 
@@ -552,5 +621,5 @@ idle_is Off e a = inl refl
 idle_is Berth e a = absurd (cc)
 
 pub hvnl_idles_cover : (s : HvnlState) (at : ℕ) (x : Activity) (n : ℕ) (t : Next HvnlState) → idles x ≡ true → allows Hvnl x ≡ true → IsOneOf (hvnl_advances s at x n) t →
-    (y : Activity) × IsOneOf (idle_list hvnl_idles) y × IsAnswered (hvnl_advances s at y n) (λ u. covers_state u t.state)
-hvnl_idles_cover s at x n t e a o = (x, idle_is x e a, (t, o, hvnl_covers_itself t.state))
+    (y : Activity) × IsOneOf (idle_list hvnl_idles) y × IsAnswered (hvnl_advances s at y n) (λ u. covers_state u t.state (at + unit_minutes Hvnl * n))
+hvnl_idles_cover s at x n t e a o = (x, idle_is x e a, (t, o, hvnl_covers_itself t.state (at + unit_minutes Hvnl * n)))

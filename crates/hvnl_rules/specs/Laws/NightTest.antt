@@ -14,7 +14,7 @@ use Rattle.duty_core.specs.Laws.HistoryLaws.{unit_at-last, unit_at-past, length-
 use Rattle.duty_core.specs.AuNights.{IsNightOf, HasBreakBy, HasBreak, IsBrokenNight, HasNights, HasTwoNights}
 use Rattle.allowance.specs.Laws.AllowLaws.{rests-works}
 use Rattle.hvnl_rules.specs.Laws.CountedLaws.{padding_long}
-use Rattle.hvnl_rules.specs.Nights.{Nights, minutes, ends_in, first_date, end_date, period_dates, is_dated, is_safe, has_four, is_pair, has_two, nights_ok}
+use Rattle.hvnl_rules.specs.Nights.{Nights, minutes, ends_in, first_date, end_date, period_dates, is_dated, is_safe, has_four, is_pair, has_two, has_nights, nights_ok}
 use Rattle.hvnl_rules.specs.Laws.Dates.{IsMinuteAt, IsDateAt, midnight_date, place_of, place_date, night_means, means_night, dated_one, one_dated, any_one, one_any, all_one, one_all, dates_one, one_dates, IsTested, few_nights, some_nights}
 use Rattle.hvnl_rules.specs.Laws.NightLaws.{IsOpen, TracksNights, broken_on}
 
@@ -40,7 +40,7 @@ safe_break p m l =
 
 -- The night of date d is safe exactly where its break is there, or comes with rest for good.
 pub safe_means : (first at bound : ℕ) (p : List Activity) (x : Activity) (n : Nights) (m d i s : ℕ) → works x ≡ true → IsMinuteAt first (length (p ++ x ∷ [])) at → TracksNights first bound (p ++ x ∷ []) n →
-    IsDateAt first m d → IsOpen first bound (p ++ x ∷ []) i s → IsNightOf first i AU_14D_PERIOD m → (is_safe at n.dates d ≡ true) ↔ HasBreak (p ++ x ∷ []) m
+    IsDateAt first m d → IsOpen first bound (p ++ x ∷ []) i s → IsNightOf first i AU_14D_PERIOD m → (is_safe (at + minutes AU_NIGHT_REST) n.dates d ≡ true) ↔ HasBreak (p ++ x ∷ []) m
 safe_means first at bound p x n m d i s w e t a o l =
     let q : List Activity = p ++ x ∷ [] in
     let len = length-one_more p x in
@@ -76,7 +76,7 @@ safe_means first at bound p x n m d i s w e t a o l =
 module _ (first units at bound : ℕ) (p : List Activity) (x : Activity) (n : Nights) (i s : ℕ) (f : first ≡ 15 * units) (w : works x ≡ true) (e : IsMinuteAt first (length (p ++ x ∷ [])) at)
     (t : TracksNights first bound (p ++ x ∷ []) n) (o : IsOpen first bound (p ++ x ∷ []) i s) where
   -- a night of the period, as a date that passes the test
-  night_tested : (m : ℕ) → IsBrokenNight first (p ++ x ∷ []) i AU_14D_PERIOD m → IsTested first (is_safe at n.dates) (first_date s) (end_date s - first_date s) m
+  night_tested : (m : ℕ) → IsBrokenNight first (p ++ x ∷ []) i AU_14D_PERIOD m → IsTested first (is_safe (at + minutes AU_NIGHT_REST) n.dates) (first_date s) (end_date s - first_date s) m
   night_tested m b =
       let q : List Activity = p ++ x ∷ [] in
       let pad = t.past i o.long.works_there in
@@ -98,36 +98,36 @@ module _ (first units at bound : ℕ) (p : List Activity) (x : Activity) (n : Ni
   dates_after = let pad = t.past i o.long.works_there in let mi = o.minute in let z = padding_long in omega arith
 
   -- and back
-  tested_night : (d : ℕ) → first_date s ≤ d → d < first_date s + (end_date s - first_date s) → is_safe at n.dates d ≡ true → IsBrokenNight first (p ++ x ∷ []) i AU_14D_PERIOD (place_of units d)
+  tested_night : (d : ℕ) → first_date s ≤ d → d < first_date s + (end_date s - first_date s) → is_safe (at + minutes AU_NIGHT_REST) n.dates d ≡ true → IsBrokenNight first (p ++ x ∷ []) i AU_14D_PERIOD (place_of units d)
   tested_night d a b y =
       let l = dates_after in
       let pd = place_date first units d f (omega arith) in
       let night = means_night first i (place_of units d) d s o.minute pd a (omega arith) in
       (night, (safe_means first at bound p x n (place_of units d) d i s w e t pd o night).0 y)
 
-  pub four_means : (has_four at n.dates s ≡ true) ↔ HasNights AU_14D_NIGHTS first (p ++ x ∷ []) i AU_14D_PERIOD
+  pub four_means : (has_four (at + minutes AU_NIGHT_REST) n.dates s ≡ true) ↔ HasNights AU_14D_NIGHTS first (p ++ x ∷ []) i AU_14D_PERIOD
   four_means = (
     (λ h.
-        let g = some_nights units (is_safe at n.dates) (IsBrokenNight first (p ++ x ∷ []) i AU_14D_PERIOD) (first_date s) (end_date s - first_date s) dates_after tested_night in
+        let g = some_nights units (is_safe (at + minutes AU_NIGHT_REST) n.dates) (IsBrokenNight first (p ++ x ∷ []) i AU_14D_PERIOD) (first_date s) (end_date s - first_date s) dates_after tested_night in
         let many = g.many in
-        let l : AU_14D_NIGHTS ≤ count_by (is_safe at n.dates) (period_dates s) = grind (arith, nat_tests) in
+        let l : AU_14D_NIGHTS ≤ count_by (is_safe (at + minutes AU_NIGHT_REST) n.dates) (period_dates s) = grind (arith, nat_tests) in
         record { nights = g.places; apart = λ k b. g.apart k (k + 1) 0 (omega arith) b; enough = omega arith; broken = g.each }),
     (λ h.
-        let a = few_nights first (is_safe at n.dates) (first_date s) (end_date s - first_date s) h.nights (AllPairs-from_increasing h.nights h.apart) (λ k d b. night_tested (get_or h.nights k d) (h.broken k d b)) in
+        let a = few_nights first (is_safe (at + minutes AU_NIGHT_REST) n.dates) (first_date s) (end_date s - first_date s) h.nights (AllPairs-from_increasing h.nights h.apart) (λ k d b. night_tested (get_or h.nights k d) (h.broken k d b)) in
         let b = h.enough in
-        let l : AU_14D_NIGHTS ≤ count_by (is_safe at n.dates) (period_dates s) = omega arith in
+        let l : AU_14D_NIGHTS ≤ count_by (is_safe (at + minutes AU_NIGHT_REST) n.dates) (period_dates s) = omega arith in
         grind (arith, nat_tests)),
   )
 
-  pub two_means : (has_two at n.dates s ≡ true) ↔ HasTwoNights first (p ++ x ∷ []) i AU_14D_PERIOD
+  pub two_means : (has_two (at + minutes AU_NIGHT_REST) n.dates s ≡ true) ↔ HasTwoNights first (p ++ x ∷ []) i AU_14D_PERIOD
   two_means = (
     (λ h.
-        let g = any_one (is_pair at n.dates s) (period_dates s) h in
+        let g = any_one (is_pair (at + minutes AU_NIGHT_REST) n.dates s) (period_dates s) h in
         let inside = dates_one (first_date s) (end_date s - first_date s) g.0 g.1 in
         let lo = inside.0 in
         let hi = inside.1 in
-        let parts = and_parts (is_safe at n.dates g.0 && is_safe at n.dates (g.0 + 1)) (ends_in (g.0 + 1) s) g.2 in
-        let both = and_parts (is_safe at n.dates g.0) (is_safe at n.dates (g.0 + 1)) parts.0 in
+        let parts = and_parts (is_safe (at + minutes AU_NIGHT_REST) n.dates g.0 && is_safe (at + minutes AU_NIGHT_REST) n.dates (g.0 + 1)) (ends_in (g.0 + 1) s) g.2 in
+        let both = and_parts (is_safe (at + minutes AU_NIGHT_REST) n.dates g.0) (is_safe (at + minutes AU_NIGHT_REST) n.dates (g.0 + 1)) parts.0 in
         let last = parts.1 in
         let ends : DAY_MINUTES * (g.0 + 1) + minutes AU_NIGHT_AFTER ≤ s + minutes AU_14D_PERIOD = grind (arith, nat_tests) in
         let l = dates_after in
@@ -147,9 +147,9 @@ module _ (first units at bound : ℕ) (p : List Activity) (x : Activity) (n : Ni
         let lo = a.from in
         let ah = a.before in
         let last : DAY_MINUTES * (a.date + 1) + minutes AU_NIGHT_AFTER ≤ s + minutes AU_14D_PERIOD = omega arith in
-        one_any (is_pair at n.dates s) (period_dates s) a.date (one_dates (first_date s) (end_date s - first_date s) a.date lo ah)
-        (and_from (is_safe at n.dates a.date && is_safe at n.dates (a.date + 1)) (ends_in (a.date + 1) s)
-        (and_from (is_safe at n.dates a.date) (is_safe at n.dates (a.date + 1)) a.passes (subst (λ d. is_safe at n.dates d ≡ true) same b.passes)) (grind (arith, nat_tests)))),
+        one_any (is_pair (at + minutes AU_NIGHT_REST) n.dates s) (period_dates s) a.date (one_dates (first_date s) (end_date s - first_date s) a.date lo ah)
+        (and_from (is_safe (at + minutes AU_NIGHT_REST) n.dates a.date && is_safe (at + minutes AU_NIGHT_REST) n.dates (a.date + 1)) (ends_in (a.date + 1) s)
+        (and_from (is_safe (at + minutes AU_NIGHT_REST) n.dates a.date) (is_safe (at + minutes AU_NIGHT_REST) n.dates (a.date + 1)) a.passes (subst (λ d. is_safe (at + minutes AU_NIGHT_REST) n.dates d ≡ true) same b.passes)) (grind (arith, nat_tests)))),
   )
 
 -- # All periods
@@ -159,12 +159,12 @@ pub ok_means : (first units at bound : ℕ) (p : List Activity) (x : Activity) (
     (nights_ok at n ≡ true) ↔ ((i s : ℕ) → IsOpen first bound (p ++ x ∷ []) i s → AreNightsKept first (p ++ x ∷ []) i)
 ok_means first units at bound p x n f w e t = (
   (λ h i s o.
-      let b = and_parts (has_four at n.dates s) (has_two at n.dates s) (all_one (λ start. has_four at n.dates start && has_two at n.dates start) n.starts h s (t.all_starts i s o)) in
+      let b = and_parts (has_four (at + minutes AU_NIGHT_REST) n.dates s) (has_two (at + minutes AU_NIGHT_REST) n.dates s) (all_one (has_nights (at + minutes AU_NIGHT_REST) n.dates) n.starts h s (t.all_starts i s o)) in
       ((four_means first units at bound p x n i s f w e t o).0 b.0, (two_means first units at bound p x n i s f w e t o).0 b.1)),
-  (λ h. one_all (λ start. has_four at n.dates start && has_two at n.dates start) n.starts (λ s o.
+  (λ h. one_all (has_nights (at + minutes AU_NIGHT_REST) n.dates) n.starts (λ s o.
       let g = t.each_start s o in
       let k = h g.0 s g.1 in
-      and_from (has_four at n.dates s) (has_two at n.dates s) ((four_means first units at bound p x n g.0 s f w e t g.1).1 k.0) ((two_means first units at bound p x n g.0 s f w e t g.1).1 k.1))),
+      and_from (has_four (at + minutes AU_NIGHT_REST) n.dates s) (has_two (at + minutes AU_NIGHT_REST) n.dates s) ((four_means first units at bound p x n g.0 s f w e t g.1).1 k.0) ((two_means first units at bound p x n g.0 s f w e t g.1).1 k.1))),
 )
 
 -- # Periods that are over

@@ -22,7 +22,7 @@ use Rattle.allowance.specs.Few.{slack}
 use Rattle.rule_core.specs.declared.numbers.TheConstants.{MOST_NUMBERS, NUMBER_LIMIT}
 use Rattle.hvnl_rules.specs.declared.state.HvnlState.{HvnlState}
 use Rattle.hvnl_rules.specs.Counted.{at_most, at_least}
-use Rattle.hvnl_rules.specs.Nights.{Nights, minutes, is_running, today}
+use Rattle.hvnl_rules.specs.Nights.{Nights, minutes, is_running, has_nights, next_break, today}
 use Rattle.hvnl_rules.specs.Laws.Dates.{any_one, all_one, one_all}
 use Rattle.hvnl_rules.specs.Few.{wide, most_wide, is_kind, asking, is_spaced, start_distance, is_recent, IsFewHeld, AreFewNights}
 use Rattle.hvnl_rules.specs.Laws.FewLaws.{one_count, all_tested, kind_cases, most_less, raise_spaced, few_spaced}
@@ -136,10 +136,12 @@ nights_from n run at e =
     let C = list_all (is_running at) n.starts in
     let E = list_all (is_recent at) n.dates in
     let F = list_all (λ d. nat_le (DAY_MINUTES * d) at) n.dates in
-    let ab = and_parts (are_few_starts n.starts run at) (are_few_dates n.dates at) e in
+    let K = list_all (has_nights (next_break at run) n.dates) n.starts in
+    let ab = and_parts (are_few_starts n.starts run at) (are_few_dates n.dates at && K) e in
+    let dk = and_parts (are_few_dates n.dates at) K ab.1 in
     let a = and_parts (is_spaced start_distance 0 n.starts) (B && C) ab.0 in
     let b = and_parts B C a.1 in
-    let d = and_parts (is_spaced 1 0 n.dates) (E && F) ab.1 in
+    let d = and_parts (is_spaced 1 0 n.dates) (E && F) dk.0 in
     let f = and_parts E F d.1 in
     record {
       few = record {
@@ -148,6 +150,7 @@ nights_from n run at e =
         unfinished = all_tested (is_running at) n.starts b.1;
         ordered = d.0;
         recent = all_tested (is_recent at) n.dates f.0;
+        kept = dk.1;
       };
       dates = All-weaker (λ d. nat_le (DAY_MINUTES * d) at ≡ true) (λ d. DAY_MINUTES * d ≤ at) (λ d y. grind (arith, nat_tests)) n.dates (all_tested (λ d. nat_le (DAY_MINUTES * d) at) n.dates f.1);
     }
@@ -158,13 +161,16 @@ nights_test n run at f =
     let C = list_all (is_running at) n.starts in
     let E = list_all (is_recent at) n.dates in
     let F = list_all (λ d. nat_le (DAY_MINUTES * d) at) n.dates in
-    and_from (are_few_starts n.starts run at) (are_few_dates n.dates at)
+    let K = list_all (has_nights (next_break at run) n.dates) n.starts in
+    and_from (are_few_starts n.starts run at) (are_few_dates n.dates at && K)
     (and_from (is_spaced start_distance 0 n.starts) (B && C) f.few.spaced
     (and_from B C (tested (λ t. t + minutes (1 + run) ≤ at) (λ t. nat_le (t + minutes (1 + run)) at) (λ t l. grind (arith, nat_tests)) n.starts f.few.begun)
     (tested (λ t. is_running at t ≡ true) (is_running at) (λ t y. y) n.starts f.few.unfinished)))
+    (and_from (are_few_dates n.dates at) K
     (and_from (is_spaced 1 0 n.dates) (E && F) f.few.ordered
     (and_from E F (tested (λ d. is_recent at d ≡ true) (is_recent at) (λ t y. y) n.dates f.few.recent)
     (tested (λ d. DAY_MINUTES * d ≤ at) (λ d. nat_le (DAY_MINUTES * d) at) (λ d l. grind (arith, nat_tests)) n.dates f.dates)))
+    f.few.kept)
 
 pub state_from : (s : HvnlState) (at : ℕ) → is_hvnl_state s at ≡ true → IsHvnlState s at
 state_from s at e =

@@ -110,17 +110,20 @@ still_starts at n P a = All-filter (is_running at) P n.starts a
 still_dates : (at : ℕ) (n : Nights) (P : ℕ → Type 0) → All P n.dates → All P (still_open at n).dates
 still_dates at n P a = All-filter (λ date. list_any (lies_in date) (running at n.starts)) P n.dates a
 
-pub duty_is_state : (s : HvnlState) (at : ℕ) → may_spend (begun s.held) ≡ true → IsHvnlState s at → IsHvnlState (duty_state s at) (at + minutes 1)
-duty_is_state s at e i = record {
-  held = needs_held s.held.run (spent (begun s.held)) refl (held_spent (begun s.held) (begun_held s.held i.held) e);
-  run = let z = needs_run s.held.run (spent (begun s.held)) in omega arith;
-  short = needs_short s.held.run (spent (begun s.held)) (All-map (λ n. n.rest ≤ AU_7D_REST) passed_need (begun s.held).needs (subst (All (λ n. n.rest ≤ AU_7D_REST)) (sym (begun_needs s.held)) i.short));
-  starts = still_starts (at + minutes 1) (pushed at s.held.run s.nights) (λ t. t ≤ at + minutes 1) (below_later at (at + minutes 1) (pushed at s.held.run s.nights).starts (omega arith) (pushed_starts at s.held.run s.nights i.starts));
-  dates = still_dates (at + minutes 1) (pushed at s.held.run s.nights) (λ d. DAY_MINUTES * d ≤ at + minutes 1)
-      (subst (λ ds. All (λ d. DAY_MINUTES * d ≤ at + minutes 1) ds) (sym (push_dates at s.held.run s.nights)) (dates_later at (at + minutes 1) s.nights.dates (omega arith) i.dates));
-  few = few_duty s.held e i.few;
-  few_nights = subst (λ run. AreFewNights (duty_state s at).nights run (at + minutes 1)) (sym (needs_run s.held.run (spent (begun s.held)))) (nights_duty s.nights s.held.run at i.few_nights);
-}
+pub duty_is_state : (s : HvnlState) (at : ℕ) → duty_ok s at ≡ true → IsHvnlState s at → IsHvnlState (duty_state s at) (at + minutes 1)
+duty_is_state s at ok i =
+    let parts = and_parts (may_spend (begun s.held)) (nights_ok (at + minutes 1) (pushed at s.held.run s.nights)) ok in
+    let e = parts.0 in
+    record {
+      held = needs_held s.held.run (spent (begun s.held)) refl (held_spent (begun s.held) (begun_held s.held i.held) e);
+      run = let z = needs_run s.held.run (spent (begun s.held)) in omega arith;
+      short = needs_short s.held.run (spent (begun s.held)) (All-map (λ n. n.rest ≤ AU_7D_REST) passed_need (begun s.held).needs (subst (All (λ n. n.rest ≤ AU_7D_REST)) (sym (begun_needs s.held)) i.short));
+      starts = still_starts (at + minutes 1) (pushed at s.held.run s.nights) (λ t. t ≤ at + minutes 1) (below_later at (at + minutes 1) (pushed at s.held.run s.nights).starts (omega arith) (pushed_starts at s.held.run s.nights i.starts));
+      dates = still_dates (at + minutes 1) (pushed at s.held.run s.nights) (λ d. DAY_MINUTES * d ≤ at + minutes 1)
+          (subst (λ ds. All (λ d. DAY_MINUTES * d ≤ at + minutes 1) ds) (sym (push_dates at s.held.run s.nights)) (dates_later at (at + minutes 1) s.nights.dates (omega arith) i.dates));
+      few = few_duty s.held e i.few;
+      few_nights = subst (λ run. AreFewNights (duty_state s at).nights run (at + minutes 1)) (sym (needs_run s.held.run (spent (begun s.held)))) (nights_duty s.nights s.held.run at parts.1 i.few_nights);
+    }
 
 pub rest_is_state : (s : HvnlState) (at : ℕ) → IsHvnlState s at → IsHvnlState (rest_state s at) (at + minutes 1)
 rest_is_state s at i =
@@ -133,7 +136,7 @@ rest_is_state s at i =
       starts = still_starts (at + minutes 1) (dated at run s.nights) (λ t. t ≤ at + minutes 1) (below_later at (at + minutes 1) (dated at run s.nights).starts (omega arith) (subst (λ ss. All (λ t. t ≤ at) ss) (sym (dated_starts at run s.nights)) i.starts));
       dates = still_dates (at + minutes 1) (dated at run s.nights) (λ d. DAY_MINUTES * d ≤ at + minutes 1) (dates_later at (at + minutes 1) (dated at run s.nights).dates (omega arith) (dated_dates at run s.nights i.dates));
       few = few_rest s.held i.run i.few;
-      few_nights = nights_rest s.nights s.held.run run at (omega arith) i.dates i.few_nights;
+      few_nights = nights_rest s.nights s.held.run run at (omega arith) (omega arith) i.dates i.few_nights;
     }
 
 pub some_same : (s t : HvnlState) → Some s ≡ Some t → s ≡ t
@@ -151,7 +154,7 @@ step_cases s at x t e = elim (works x) as (λ b. works x ≡ b → cond b (cond 
 
 pub step_is_state : (s : HvnlState) (at : ℕ) (x : Activity) (t : HvnlState) → IsHvnlState s at → hvnl_step s at x ≡ Some t → IsHvnlState t (at + minutes 1)
 step_is_state s at x t i e = elim (step_cases s at x t e) [
-  | inl c ↦ subst (λ u. IsHvnlState u (at + minutes 1)) c.2 (duty_is_state s at ((and_parts (may_spend (begun s.held)) (nights_ok (at + minutes 1) (pushed at s.held.run s.nights)) c.1).0) i)
+  | inl c ↦ subst (λ u. IsHvnlState u (at + minutes 1)) c.2 (duty_is_state s at c.1 i)
   | inr c ↦ subst (λ u. IsHvnlState u (at + minutes 1)) c.1 (rest_is_state s at i)
 ]
 

@@ -7,13 +7,13 @@ use Rattle.hvnl_rules.proofs.nights.has_four.Goals as goal
 
 pub overflow_add-safe : goal.overflow_add-safe
 overflow_add-safe c =
-    let e : c.loop-date.safe ≡ count_by (is_safe c.args.at c.args.dates.now) (dates_from c.first_date-first.result (c.loop-date.date - c.first_date-first.result)) = c.loop-date.invariant in
-    let q = count_few (is_safe c.args.at c.args.dates.now) c.first_date-first.result (c.loop-date.date - c.first_date-first.result) in
+    let e : c.loop-date.safe ≡ count_by (is_safe c.args.soonest c.args.dates.now) (dates_from c.first_date-first.result (c.loop-date.date - c.first_date-first.result)) = c.loop-date.invariant in
+    let q = count_few (is_safe c.args.soonest c.args.dates.now) c.first_date-first.result (c.loop-date.date - c.first_date-first.result) in
     omega arith
 
 pub loop-date-preserved : goal.loop-date-preserved
 loop-date-preserved c =
-    let t = is_safe c.args.at c.args.dates.now in
+    let t = is_safe c.args.soonest c.args.dates.now in
     let first : ℕ = c.first_date-first.result in
     let date : ℕ = c.loop-date.date in
     let l : first ≤ date = omega arith in
