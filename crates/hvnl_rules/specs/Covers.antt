@@ -2,20 +2,29 @@
 use Rattle.std.specs.Prelude.{ℕ, List, max, Bool, not, ◌&&◌, ◌||◌, nat_eq, nat_le}
 use Rattle.std.specs.List.{list_all, list_any}
 use Rattle.duty_core.specs.declared.limits.TheConstants.{AU_LONG_START}
+use Rattle.allowance.specs.declared.limit.Need.{Need}
 use Rattle.allowance.specs.Allow.{Held, implies, gives}
 use Rattle.hvnl_rules.specs.declared.state.HvnlState.{HvnlState}
 use Rattle.hvnl_rules.specs.Nights.{Nights, lies_in, first_date, end_date, is_dated, has_nights, past_period, today}
 
 -- # The test
 
--- runs of rest in progress: equal, or both enough for each start, and no less rest than there
-abbrev pub covers_run : ℕ → ℕ → Bool
-covers_run a b = nat_eq a b || (nat_le AU_LONG_START b && nat_le b a)
+-- before this need is met no unit may be duty
+abbrev pub is_tight : Need → Bool
+is_tight n = nat_le n.units n.rest
 
--- each limit is implied by one of the other, and each need given by one of the other
+-- the need m asks for as much rest as n, and no later, or for no less and no unit before may be duty
+abbrev pub meets : Need → Need → Bool
+meets m n = gives m n || (is_tight m && nat_le n.rest m.rest)
+
+-- Runs of rest in progress are equal, or no shorter than there, where the next duty unit begins the same periods after both: there is enough rest for each of them, or there is before a unit may be duty.
+abbrev pub covers_run : Held → Held → Bool
+covers_run a b = nat_eq a.run b.run || ((nat_le AU_LONG_START b.run || list_any is_tight b.needs) && nat_le b.run a.run)
+
+-- each limit is implied by one of the other, and each need is met with one of the other
 abbrev pub covers_held : Held → Held → Bool
 covers_held a b =
-    covers_run a.run b.run && (list_all (λ q. list_any (λ k. implies k q) b.limits) a.limits && list_all (λ n. list_any (λ k. gives k n) b.needs) a.needs)
+    covers_run a b && (list_all (λ q. list_any (λ k. implies k q) b.limits) a.limits && list_all (λ n. list_any (λ k. meets k n) b.needs) a.needs)
 
 -- At this minute the period asks no more than one of the other: each night of that one which has a break there, or may get one yet, is one of this, and has its break here where it has one there.
 abbrev pub covers_start : ℕ → List ℕ → List ℕ → ℕ → ℕ → Bool

@@ -2,9 +2,9 @@
 ghost use Rattle.std.specs.Prelude.{◌≡◌, ◌+◌, ◌<◌, ◌≤◌, All, true, IfOk, OnOk, IsTrue};
 ghost use Rattle.std.specs.List.{list_all, list_any};
 ghost use Rattle.duty_core.specs.declared.limits.TheConstants.{AU_7D_REST};
-ghost use Rattle.allowance.specs.Allow.{may_spend, spent, implies as implies_test, gives};
+ghost use Rattle.allowance.specs.Allow.{may_spend, spent, implies as implies_test};
 ghost use Rattle.hvnl_rules.specs.Counted.{begun_short, begun, with_needs, after_duty, after_rest, start_held, added_all, short_limits, long_limits};
-ghost use Rattle.hvnl_rules.specs.Covers.{covers_run as covers_run_test, covers_held};
+ghost use Rattle.hvnl_rules.specs.Covers.{is_tight as is_tight_test, meets as meets_test, covers_run as covers_run_test, covers_held};
 
 use allowance::{Allowances, Limit, Need, implies};
 use duty_core::{
@@ -104,11 +104,34 @@ fn is_implied(limits: &[Limit], limit: Limit) -> bool
     limits.iter().any(|other| implies(*other, limit))
 }
 
-/// Whether some need asks for as much rest as this one, and no later.
-fn is_given(needs: &[Need], need: Need) -> bool
-    ensures { result ≡ list_any (λ k. gives k need) needs.now }
+/// Whether no unit may be duty before the need is met.
+fn is_tight(need: Need) -> bool
+    ensures { result ≡ is_tight_test need }
 {
-    needs.iter().any(|other| other.rest == need.rest && other.units <= need.units)
+    need.units <= need.rest
+}
+
+/// Whether who meets this need meets the other one: it asks for as much rest, and no later, or for no
+/// less and no unit before may be duty.
+fn meets(need: Need, other: Need) -> bool
+    ensures { result ≡ meets_test need other }
+{
+    (need.rest == other.rest && need.units <= other.units)
+        || (is_tight(need) && other.rest <= need.rest)
+}
+
+/// Whether no unit may be duty before some need is met.
+fn has_tight(needs: &[Need]) -> bool
+    ensures { result ≡ list_any is_tight_test needs.now }
+{
+    needs.iter().any(|need| is_tight(*need))
+}
+
+/// Whether who meets some of the needs meets this one.
+fn is_met(needs: &[Need], need: Need) -> bool
+    ensures { result ≡ list_any (λ k. meets_test k need) needs.now }
+{
+    needs.iter().any(|other| meets(*other, need))
 }
 
 /// Whether each limit is implied by one of the others.
@@ -123,33 +146,34 @@ fn are_implied(limits: &[Limit], others: &[Limit]) -> bool
     true
 }
 
-/// Whether each need is given by one of the others.
-fn are_given(needs: &[Need], others: &[Need]) -> bool
-    ensures { result ≡ list_all (λ n. list_any (λ k. gives k n) others.now) needs.now }
+/// Whether who meets the others meets each of the needs.
+fn are_met(needs: &[Need], others: &[Need]) -> bool
+    ensures { result ≡ list_all (λ n. list_any (λ k. meets_test k n) others.now) needs.now }
 {
     for need in needs {
-        if !is_given(others, *need) {
+        if !is_met(others, *need) {
             return false;
         }
     }
     true
 }
 
-/// Whether so much rest in progress may stand for other rest: the same periods begin after it, and
-/// it ends each need and gives each night its break no later.
-fn covers_run(run: u32, other: u32) -> bool
-    ensures { result ≡ covers_run_test run other }
+/// Whether the rest in progress may stand for that of the other: the next duty unit begins the same
+/// periods after both, and it meets each need and gives each night its break no later.
+fn covers_run(held: &Allowances, other: &Allowances) -> bool
+    ensures { result ≡ covers_run_test held.now other.now }
 {
-    run == other || (other >= AU_LONG_START && run >= other)
+    let run = other.run();
+    held.run() == run || ((run >= AU_LONG_START || has_tight(other.needs())) && held.run() >= run)
 }
 
 /// Whether the rest in progress may stand for that of the other, each limit is implied by one of the
-/// other, and each need is given by one of the other.
+/// other, and who meets the needs of the other meets each need.
 pub fn covers(held: &Allowances, other: &Allowances) -> bool
     ensures { result ≡ covers_held held.now other.now }
 {
-    covers_run(held.run(), other.run())
-        && (are_implied(held.limits(), other.limits()) && are_given(held.needs(), other.needs()))
+    covers_run(held, other)
+        && (are_implied(held.limits(), other.limits()) && are_met(held.needs(), other.needs()))
 }
 
 /// The rest units that the limits want before so many duty units are done: a limit that leaves fewer

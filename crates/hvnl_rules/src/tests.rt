@@ -186,15 +186,21 @@ fn answers_each_call(rt: HostRuntime) -> Result<(), Fail> {
     Ok(())
 }
 
+/// Whether the state with these numbers may stand for the one with those, at a minute at which no
+/// period of fourteen days is open.
+fn state_covers(alloc: Global, numbers: &[u32], others: &[u32]) -> Result<bool, Fail> {
+    let state = HvnlState::of_numbers(alloc, numbers, 15)?;
+    let other = HvnlState::of_numbers(alloc, others, 15)?;
+    match (state, other) {
+        (Some(state), Some(other)) => Ok(state.covers(&other, 15)),
+        _ => Ok(false),
+    }
+}
+
 /// Whether a history that asks nothing and ends with so many rest units may stand for one that ends
 /// with `other` of them.
 fn run_covers(alloc: Global, run: u32, other: u32) -> Result<bool, Fail> {
-    let long = HvnlState::of_numbers(alloc, &[0, 0, 0, run], 15)?;
-    let short = HvnlState::of_numbers(alloc, &[0, 0, 0, other], 15)?;
-    match (long, short) {
-        (Some(long), Some(short)) => Ok(long.covers(&short, 15)),
-        _ => Ok(false),
-    }
+    state_covers(alloc, &[0, 0, 0, run], &[0, 0, 0, other])
 }
 
 #[test]
@@ -207,6 +213,20 @@ fn a_longer_run_covers_from_seven_hours_on(rt: HostRuntime) -> Result<(), Fail> 
     assert!(rt; !run_covers(alloc, 28, 27)?);
     assert!(rt; !run_covers(alloc, 1, 0)?);
     assert!(rt; !run_covers(alloc, 28, 40)?);
+    Ok(())
+}
+
+#[test]
+fn a_need_that_forces_rest_covers(rt: HostRuntime) -> Result<(), Fail> {
+    let alloc = rt.alloc();
+    // The other rests until it has seven hours, and this one has them half an hour earlier.
+    assert!(rt; state_covers(alloc, &[0, 1, 0, 2, 26, 28], &[0, 1, 0, 0, 28, 28])?);
+    assert!(rt; !state_covers(alloc, &[0, 1, 0, 0, 28, 28], &[0, 1, 0, 2, 26, 28])?);
+    // The other may work for a quarter of an hour first.
+    assert!(rt; !state_covers(alloc, &[0, 1, 0, 2, 27, 28], &[0, 1, 0, 0, 29, 28])?);
+    // It rests until it has a day, and so meets a need of seven hours, but not where it need not yet.
+    assert!(rt; state_covers(alloc, &[0, 2, 0, 9, 19, 28, 96, 96], &[0, 1, 0, 9, 96, 96])?);
+    assert!(rt; !state_covers(alloc, &[0, 2, 0, 9, 19, 28, 97, 96], &[0, 1, 0, 9, 97, 96])?);
     Ok(())
 }
 

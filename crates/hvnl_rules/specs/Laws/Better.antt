@@ -141,14 +141,14 @@ module _ (first : ℕ) (p q : List Activity) (a b : HvnlState) (same : length p 
   better_covered : (at : ℕ) → IsCovered a b at
   better_covered at = record {
     held = record {
-      run = inl run_same;
+      run = inl (inl run_same);
       limits = λ r o. limit_given r (one_held a.held.limits r l.tracks.counted.held.limits o) o;
       needs = λ n o.
           let w = g.needs n.rest n.units (l.stands.needs.only n o) in
           let k = m.stands.needs.each n.rest w.0 w.2 in
           let u = w.1 in
           let v = k.3 in
-          (k.0, k.1, gives_from k.0 n k.2 (omega arith));
+          (k.0, k.1, inl (gives_from k.0 n k.2 (omega arith)));
     };
     nights = λ s o. inr (
       s,

@@ -2,7 +2,7 @@
 use Rattle.std.proofs.Common.{◌≡◌, ◌↔◌, ℕ, ◌+◌, ◌-◌, ◌*◌, ◌<◌, ◌≤◌, Bool, true, false, not, ◌&&◌, ◌||◌, cond, List, [], ◌∷◌, ◌++◌, min, refl, sym, ◌∙◌, ap, subst, arith, ◌⊎◌, inl, inr}
 use Rattle.std.specs.Prelude.{None, Some, All, map, filter, max, nat_eq, nat_le, nat_lt}
 use Rattle.std.specs.List.{list_all, list_any}
-use Rattle.std.proofs.lemmas.Bool.{cases_Bool, and_parts, and_from, or_cases, or_left, or_right}
+use Rattle.std.proofs.lemmas.Bool.{cases_Bool, cases_lt, and_parts, and_from, or_cases, or_left, or_right}
 use Rattle.std.proofs.lemmas.Bool.Decides.{nat_tests}
 use Rattle.std.proofs.lemmas.List.Elements.{All-head, All-tail}
 use Rattle.duty_core.specs.declared.activity.Activity.{Activity}
@@ -19,14 +19,16 @@ use Rattle.rule_core.specs.Reach.{idle_list, IsOneOf, IsAnswered}
 use Rattle.rule_core.specs.Laws.OneOf.{one_of-append, one_of-append_left, one_of-append_right, one_of-map, one_of_map}
 use Rattle.hvnl_rules.specs.declared.state.HvnlState.{HvnlState}
 use Rattle.hvnl_rules.specs.Counted.{short_limits, long_limits, day_need, week_need, added_all, begun, with_needs, after_duty, after_rest}
-use Rattle.hvnl_rules.specs.Laws.CountedLaws.{begun_held}
+use Rattle.hvnl_rules.specs.Laws.CountedLaws.{begun_held, begun_needs}
 use Rattle.hvnl_rules.specs.Nights.{Nights, minutes, is_running, begins_in, ends_in, lies_in, first_date, end_date, is_dated, is_safe, has_nights, nights_ok, next_break, past_period, today, is_rested, dated, pushed, running, still_open}
 use Rattle.hvnl_rules.specs.Laws.Dates.{dated_one, one_dated, any_one, one_any, all_one, one_all, one_filter, filter_one}
 use Rattle.hvnl_rules.specs.Laws.NightLaws.{dated_starts}
+use Rattle.hvnl_rules.specs.Few.{is_kind}
+use Rattle.hvnl_rules.specs.Laws.FewLaws.{kind_cases}
 use Rattle.hvnl_rules.specs.Laws.KeptNights.{night_in, in_night, nights_moved, nights_carried, nights_for_good, one_of_dated, dated_keeps, dated_new, kept_rest, date_open, kept_open}
 use Rattle.hvnl_rules.specs.Machine.{duty_ok, duty_state, rest_state, plain, hvnl_nexts, hvnl_step, hvnl_advances, hvnl_idles, IsHvnlState}
 use Rattle.hvnl_rules.specs.Laws.Steps.{next_means, step_cases, next_from}
-use Rattle.hvnl_rules.specs.Covers.{covers_run, covers_held, covers_start, covers_period, covers_nights, covers_state}
+use Rattle.hvnl_rules.specs.Covers.{is_tight, meets, covers_run, covers_held, covers_start, covers_period, covers_nights, covers_state}
 
 -- # What it says
 
@@ -38,6 +40,16 @@ pub record IsHeldCovered (a b : Held) : Type 0 where
   pub limits : (q : Limit) → IsOneOf a.limits q → (k : Limit) × IsOneOf b.limits k × (implies k q ≡ true)
   pub needs : (n : Need) → IsOneOf a.needs n → (k : Need) × IsOneOf b.needs k × (gives k n ≡ true)
 
+-- a need that no duty unit may come before
+abbrev pub IsForced : List Need → Type 0
+IsForced ns = (k : Need) × IsOneOf ns k × (k.units ≤ k.rest)
+
+-- What the test says: as soon as a unit may be duty, it is as above.
+pub record IsHeldMet (a b : Held) : Type 0 where
+  pub run : IsRunCovered a.run b.run ⊎ ((b.run ≤ a.run) × IsForced b.needs)
+  pub limits : (q : Limit) → IsOneOf a.limits q → (k : Limit) × IsOneOf b.limits k × (implies k q ≡ true)
+  pub needs : (n : Need) → IsOneOf a.needs n → (k : Need) × IsOneOf b.needs k × ((gives k n ≡ true) ⊎ ((k.units ≤ k.rest) × (n.rest ≤ k.rest)))
+
 pub record IsStartCovered (at : ℕ) (dates others : List ℕ) (start other : ℕ) : Type 0 where
   pub last : end_date other ≤ end_date start
   pub first : first_date start ≤ max (first_date other) (today at)
@@ -47,41 +59,73 @@ abbrev pub AreNightsCovered : ℕ → Nights → Nights → Type 0
 AreNightsCovered at a b = (s : ℕ) → IsOneOf a.starts s → (has_nights (past_period s) a.dates s ≡ true) ⊎ ((t : ℕ) × IsOneOf b.starts t × IsStartCovered at a.dates b.dates s t)
 
 pub record IsCovered (a b : HvnlState) (at : ℕ) : Type 0 where
-  pub held : IsHeldCovered a.held b.held
+  pub held : IsHeldMet a.held b.held
   pub nights : AreNightsCovered at a.nights b.nights
 
-run_means : (a b : ℕ) → covers_run a b ≡ true → IsRunCovered a b
-run_means a b e = elim (or_cases (nat_eq a b) (nat_le AU_LONG_START b && nat_le b a) e) [
-  | inl y ↦ inl (grind (arith, nat_tests))
-  | inr y ↦ (let c = and_parts (nat_le AU_LONG_START b) (nat_le b a) y in let l = c.0 in let m = c.1 in inr (grind (arith, nat_tests), grind (arith, nat_tests)))
+abbrev RunMet : Held → Held → Type 0
+RunMet a b = IsRunCovered a.run b.run ⊎ ((b.run ≤ a.run) × IsForced b.needs)
+
+run_means : (a b : Held) → covers_run a b ≡ true → RunMet a b
+run_means a b e = elim (or_cases (nat_eq a.run b.run) ((nat_le AU_LONG_START b.run || list_any is_tight b.needs) && nat_le b.run a.run) e) [
+  | inl y ↦ inl (inl (grind (arith, nat_tests)))
+  | inr y ↦
+      let c = and_parts (nat_le AU_LONG_START b.run || list_any is_tight b.needs) (nat_le b.run a.run) y in
+      let m = c.1 in
+      elim (or_cases (nat_le AU_LONG_START b.run) (list_any is_tight b.needs) c.0) [
+        | inl z ↦ inl (inr (grind (arith, nat_tests), grind (arith, nat_tests)))
+        | inr z ↦ (let g = any_one is_tight b.needs z in let t = g.2 in inr (grind (arith, nat_tests), (g.0, g.1, grind (arith, nat_tests))))
+      ]
 ]
 
-means_run : (a b : ℕ) → IsRunCovered a b → covers_run a b ≡ true
-means_run a b h = elim h [
-  | inl e ↦ or_left (nat_eq a b) (nat_le AU_LONG_START b && nat_le b a) (grind (arith, nat_tests))
-  | inr r ↦ (let l = r.0 in let m = r.1 in or_right (nat_eq a b) (nat_le AU_LONG_START b && nat_le b a) (and_from (nat_le AU_LONG_START b) (nat_le b a) (grind (arith, nat_tests)) (grind (arith, nat_tests))))
+means_run : (a b : Held) → RunMet a b → covers_run a b ≡ true
+means_run a b h =
+    let E = nat_eq a.run b.run in
+    let L = nat_le AU_LONG_START b.run in
+    let T = list_any is_tight b.needs in
+    let M = nat_le b.run a.run in
+    elim h [
+      | inl c ↦ elim c [
+        | inl e ↦ or_left E ((L || T) && M) (grind (arith, nat_tests))
+        | inr r ↦ (let l = r.0 in let m = r.1 in or_right E ((L || T) && M) (and_from (L || T) M (or_left L T (grind (arith, nat_tests))) (grind (arith, nat_tests))))
+      ]
+      | inr f ↦
+          let m = f.0 in
+          let t = f.1.2 in
+          or_right E ((L || T) && M) (and_from (L || T) M (or_right L T (one_any is_tight b.needs f.1.0 f.1.1 (grind (arith, nat_tests)))) (grind (arith, nat_tests)))
+    ]
+
+meets_means : (k n : Need) → meets k n ≡ true → (gives k n ≡ true) ⊎ ((k.units ≤ k.rest) × (n.rest ≤ k.rest))
+meets_means k n e = elim (or_cases (gives k n) (is_tight k && nat_le n.rest k.rest) e) [
+  | inl y ↦ inl y
+  | inr y ↦ (let c = and_parts (is_tight k) (nat_le n.rest k.rest) y in let t = c.0 in let l = c.1 in inr (grind (arith, nat_tests), grind (arith, nat_tests)))
 ]
 
-held_means : (a b : Held) → covers_held a b ≡ true → IsHeldCovered a b
+means_meets : (k n : Need) → (gives k n ≡ true) ⊎ ((k.units ≤ k.rest) × (n.rest ≤ k.rest)) → meets k n ≡ true
+means_meets k n h = elim h [
+  | inl y ↦ or_left (gives k n) (is_tight k && nat_le n.rest k.rest) y
+  | inr y ↦ (let t = y.0 in let l = y.1 in or_right (gives k n) (is_tight k && nat_le n.rest k.rest) (and_from (is_tight k) (nat_le n.rest k.rest) (grind (arith, nat_tests)) (grind (arith, nat_tests))))
+]
+
+held_means : (a b : Held) → covers_held a b ≡ true → IsHeldMet a b
 held_means a b h =
     let L = list_all (λ q. list_any (λ k. implies k q) b.limits) a.limits in
-    let N = list_all (λ n. list_any (λ k. gives k n) b.needs) a.needs in
-    let c = and_parts (covers_run a.run b.run) (L && N) h in
+    let N = list_all (λ n. list_any (λ k. meets k n) b.needs) a.needs in
+    let c = and_parts (covers_run a b) (L && N) h in
     let d = and_parts L N c.1 in
     record {
-      run = run_means a.run b.run c.0;
+      run = run_means a b c.0;
       limits = λ q o. any_one (λ k. implies k q) b.limits (all_one (λ q. list_any (λ k. implies k q) b.limits) a.limits d.0 q o);
-      needs = λ n o. any_one (λ k. gives k n) b.needs (all_one (λ n. list_any (λ k. gives k n) b.needs) a.needs d.1 n o);
+      needs = λ n o. (let g = any_one (λ k. meets k n) b.needs (all_one (λ n. list_any (λ k. meets k n) b.needs) a.needs d.1 n o) in (g.0, g.1, meets_means g.0 n g.2));
     }
 
-means_held : (a b : Held) → IsHeldCovered a b → covers_held a b ≡ true
+means_held : (a b : Held) → IsHeldMet a b → covers_held a b ≡ true
 means_held a b h =
     let L = list_all (λ q. list_any (λ k. implies k q) b.limits) a.limits in
-    let N = list_all (λ n. list_any (λ k. gives k n) b.needs) a.needs in
-    and_from (covers_run a.run b.run) (L && N) (means_run a.run b.run h.run)
+    let N = list_all (λ n. list_any (λ k. meets k n) b.needs) a.needs in
+    and_from (covers_run a b) (L && N) (means_run a b h.run)
     (and_from L N
     (one_all (λ q. list_any (λ k. implies k q) b.limits) a.limits (λ q o. let g = h.limits q o in one_any (λ k. implies k q) b.limits g.0 g.1 g.2))
-    (one_all (λ n. list_any (λ k. gives k n) b.needs) a.needs (λ n o. let g = h.needs n o in one_any (λ k. gives k n) b.needs g.0 g.1 g.2)))
+    (one_all (λ n. list_any (λ k. meets k n) b.needs) a.needs (λ n o. let g = h.needs n o in one_any (λ k. meets k n) b.needs g.0 g.1 (means_meets g.0 n g.2))))
 
 start_means : (at : ℕ) (dates others : List ℕ) (s t : ℕ) → covers_start at dates others s t ≡ true → IsStartCovered at dates others s t
 start_means at dates others s t h =
@@ -175,10 +219,43 @@ same_start n a b l h = elim h [
       x ∙ sym y
 ]
 
-run_on : (a b c : ℕ) → IsRunCovered a b → IsRunCovered b c → IsRunCovered a c
-run_on a b c h g = elim g [
-  | inl e ↦ subst (IsRunCovered a) e h
-  | inr r ↦ (let l = run_less a b h in let m = r.1 in inr (r.0, omega arith))
+met_less : (a b : Held) → IsHeldMet a b → b.run ≤ a.run
+met_less a b h = elim h.run [ inl c ↦ run_less a.run b.run c | inr f ↦ f.0 ]
+
+-- what forces rest there forces it where that is covered
+forced_on : (b c : Held) → IsHeldMet b c → IsForced b.needs → IsForced c.needs
+forced_on b c g f =
+    let l = g.needs f.0 f.1 in
+    let t = f.2 in
+    elim l.2 [
+      | inl y ↦ (let m = gives_means l.0 f.0 y in let r = m.0 in let u = m.1 in (l.0, l.1, omega arith))
+      | inr y ↦ (l.0, l.1, y.0)
+    ]
+
+run_on : (a b c : Held) → IsHeldMet a b → IsHeldMet b c → RunMet a c
+run_on a b c h g =
+    let l = met_less a b h in
+    let m = met_less b c g in
+    elim g.run [
+      | inl d ↦ elim d [
+        | inl e ↦ elim h.run [ inl y ↦ inl (subst (IsRunCovered a.run) e y) | inr f ↦ inr (omega arith, forced_on b c g f.1) ]
+        | inr r ↦ inl (inr (r.0, omega arith))
+      ]
+      | inr f ↦ inr (omega arith, f.1)
+    ]
+
+met_on : (l k n : Need) → (gives l k ≡ true) ⊎ ((l.units ≤ l.rest) × (k.rest ≤ l.rest)) → (gives k n ≡ true) ⊎ ((k.units ≤ k.rest) × (n.rest ≤ k.rest)) → (gives l n ≡ true) ⊎ ((l.units ≤ l.rest) × (n.rest ≤ l.rest))
+met_on l k n h g = elim h [
+  | inl y ↦ elim g [
+    | inl z ↦ inl (gives_on l k n y z)
+    | inr z ↦ (let m = gives_means l k y in let r = m.0 in let u = m.1 in let t = z.0 in let w = z.1 in inr (omega arith, omega arith))
+  ]
+  | inr y ↦
+      let w = y.1 in
+      elim g [
+        | inl z ↦ (let m = gives_means k n z in let r = m.0 in inr (y.0, omega arith))
+        | inr z ↦ (let v = z.1 in inr (y.0, omega arith))
+      ]
 ]
 
 run_more : (a b : ℕ) → IsRunCovered a b → IsRunCovered (min (one_more a) AU_7D_REST) (min (one_more b) AU_7D_REST)
@@ -210,16 +287,16 @@ nights_on at a b c h g s o = elim (h s o) [
 
 covered_itself : (s : HvnlState) (at : ℕ) → IsCovered s s at
 covered_itself s at = record {
-  held = record { run = inl refl; limits = λ q o. (q, o, implies_itself q); needs = λ n o. (n, o, gives_itself n) };
+  held = record { run = inl (inl refl); limits = λ q o. (q, o, implies_itself q); needs = λ n o. (n, o, inl (gives_itself n)) };
   nights = λ t o. inr (t, o, start_itself at s.nights.dates t);
 }
 
 covered_on : (a b c : HvnlState) (at : ℕ) → IsCovered a b at → IsCovered b c at → IsCovered a c at
 covered_on a b c at h g = record {
   held = record {
-    run = run_on a.held.run b.held.run c.held.run h.held.run g.held.run;
+    run = run_on a.held b.held c.held h.held g.held;
     limits = λ q o. (let k = h.held.limits q o in let l = g.held.limits k.0 k.1 in (l.0, l.1, implies_on l.0 k.0 q l.2 k.2));
-    needs = λ n o. (let k = h.held.needs n o in let l = g.held.needs k.0 k.1 in (l.0, l.1, gives_on l.0 k.0 n l.2 k.2));
+    needs = λ n o. (let k = h.held.needs n o in let l = g.held.needs k.0 k.1 in (l.0, l.1, met_on l.0 k.0 n l.2 k.2));
   };
   nights = nights_on at a.nights b.nights c.nights h.nights g.nights;
 }
@@ -388,9 +465,33 @@ covered_spent a b i e h =
           (passed_need k.0, one_of_map passed_need b.needs k.0 k.1, subst (λ r. gives (passed_need k.0) r ≡ true) q.2 (gives_from (passed_need k.0) (passed_need q.0) l.0 (omega arith)));
     }
 
-covered_passed : (a b : Held) → IsHeld b → IsHeldCovered a b → IsHeldCovered (after_rest a) (after_rest b)
-covered_passed a b i h = record {
-  run = run_more a.run b.run h.run;
+one_kind : (ns : List Need) (k : Need) → All (λ n. is_kind n ≡ true) ns → IsOneOf ns k → AU_LONG_START ≤ k.rest
+one_kind [] k a o = absurd o
+one_kind (n ∷ ns) k a o = elim o [
+  | inl e ↦ (let r = ap (λ m. m.rest) e in elim (kind_cases n (All-head (λ n. is_kind n ≡ true) n ns a)) [ inl c ↦ (let q = c.0 in omega arith) | inr c ↦ (let q = c.0 in omega arith) ])
+  | inr r ↦ one_kind ns k (All-tail (λ n. is_kind n ≡ true) n ns a) r
+]
+
+-- a need that is not met with one more rest unit
+passed_one : (run : ℕ) (ns : List Need) (k : Need) → one_more run < k.rest → IsOneOf ns k → IsOneOf (filter (waits (one_more run)) (map passed_need ns)) (passed_need k)
+passed_one run ns k l o = one_filter (waits (one_more run)) (map passed_need ns) (passed_need k) (grind (arith, nat_tests)) (one_of_map passed_need ns k o)
+
+passed_run : (a b : Held) → All (λ n. is_kind n ≡ true) b.needs → IsHeldMet a b → RunMet (after_rest a) (after_rest b)
+passed_run a b kinds h = elim h.run [
+  | inl c ↦ inl (run_more a.run b.run c)
+  | inr f ↦
+      let less = f.0 in
+      let t = f.1.2 in
+      let long = one_kind b.needs f.1.0 kinds f.1.1 in
+      elim (cases_lt (one_more b.run) f.1.0.rest) [
+        | inl l ↦ inr (omega arith, (passed_need f.1.0, passed_one b.run b.needs f.1.0 l f.1.1, omega arith))
+        | inr l ↦ inl (inr (omega arith, omega arith))
+      ]
+]
+
+covered_passed : (a b : Held) → IsHeld b → All (λ n. is_kind n ≡ true) b.needs → IsHeldMet a b → IsHeldMet (after_rest a) (after_rest b)
+covered_passed a b i kinds h = record {
+  run = passed_run a b kinds h;
   limits = λ r o.
       let f = filter_one is_open (map passed_limit a.limits) r o in
       let q = one_of-map passed_limit a.limits r f.0 in
@@ -408,18 +509,37 @@ covered_passed a b i h = record {
       let f = filter_one (waits (one_more a.run)) (map passed_need a.needs) r o in
       let q = one_of-map passed_need a.needs r f.0 in
       let k = h.needs q.0 q.1 in
-      let l = gives_means k.0 q.0 k.2 in
-      let v = l.1 in
-      let less = run_less a.run b.run h.run in
+      let less = met_less a b h in
       let waits_here : nat_lt (one_more a.run) q.0.rest ≡ true = ap (waits (one_more a.run)) q.2 ∙ f.1 in
       let m : one_more a.run < q.0.rest = grind (arith, nat_tests) in
-      let same = l.0 in
-      let waits_there : one_more b.run < k.0.rest = omega arith in (
-        passed_need k.0,
-        one_filter (waits (one_more b.run)) (map passed_need b.needs) (passed_need k.0) (grind (arith, nat_tests)) (one_of_map passed_need b.needs k.0 k.1),
-        subst (λ r. gives (passed_need k.0) r ≡ true) q.2 (gives_from (passed_need k.0) (passed_need q.0) l.0 (omega arith)),
-      );
+      elim k.2 [
+        | inl y ↦
+            let l = gives_means k.0 q.0 y in
+            let same = l.0 in
+            let v = l.1 in
+            (passed_need k.0, passed_one b.run b.needs k.0 (omega arith) k.1, inl (subst (λ r. gives (passed_need k.0) r ≡ true) q.2 (gives_from (passed_need k.0) (passed_need q.0) l.0 (omega arith))))
+        | inr y ↦
+            let t = y.0 in
+            let v = y.1 in
+            let same : q.0.rest ≡ r.rest = ap (λ n. n.rest) q.2 in
+            (passed_need k.0, passed_one b.run b.needs k.0 (omega arith) k.1, inr (omega arith, omega arith))
+      ];
 }
+
+-- where a unit may be duty, no need forces rest
+held_strict : (a b : Held) → may_spend (begun b) ≡ true → IsHeldMet a b → IsHeldCovered a b
+held_strict a b e h =
+    let c = and_parts (list_all (λ p. nat_lt 0 p.duty) (begun b).limits) (list_all (λ n. nat_lt n.rest n.units) (begun b).needs) e in
+    let may : list_all (λ n. nat_lt n.rest n.units) b.needs ≡ true = subst (λ ns. list_all (λ n. nat_lt n.rest n.units) ns ≡ true) (begun_needs b) c.1 in
+    let free : (k : Need) → IsOneOf b.needs k → k.rest < k.units = (λ k o. (let y = all_one (λ n. nat_lt n.rest n.units) b.needs may k o in grind (arith, nat_tests))) in
+    record {
+      run = elim h.run [ inl y ↦ y | inr f ↦ absurd (let t = f.1.2 in let u = free f.1.0 f.1.1 in omega arith) ];
+      limits = h.limits;
+      needs = λ n o. (let k = h.needs n o in (k.0, k.1, elim k.2 [ inl y ↦ y | inr y ↦ absurd (let t = y.0 in let u = free k.0 k.1 in omega arith) ]));
+    }
+
+strict_held : (a b : Held) → IsHeldCovered a b → IsHeldMet a b
+strict_held a b h = record { run = inl h.run; limits = h.limits; needs = λ n o. (let k = h.needs n o in (k.0, k.1, inl k.2)) }
 
 covered_duty : (a b : Held) → IsHeld b → may_spend (begun b) ≡ true → IsHeldCovered a b → IsHeldCovered (after_duty a) (after_duty b)
 covered_duty a b i e h =
@@ -560,14 +680,15 @@ over_by at so n t l r e =
 covered_duty_state : (a b : HvnlState) (at : ℕ) → IsHvnlState b at → duty_ok b at ≡ true → IsCovered a b at → (duty_ok a at ≡ true) × IsCovered (duty_state a at) (duty_state b at) (at + minutes 1)
 covered_duty_state a b at i e h =
     let c = and_parts (may_spend (begun b.held)) (nights_ok (at + minutes 1) (pushed at b.held.run b.nights)) e in
+    let g = held_strict a.held b.held c.0 h.held in
     let m : AreNightsCovered at (pushed at a.held.run a.nights) (pushed at b.held.run b.nights) =
-    subst (λ t. AreNightsCovered at (cond t (record a.nights { starts = a.nights.starts ++ at ∷ [] }) a.nights) (pushed at b.held.run b.nights)) (same_start AU_LONG_START a.held.run b.held.run (omega arith) h.held.run)
+    subst (λ t. AreNightsCovered at (cond t (record a.nights { starts = a.nights.starts ++ at ∷ [] }) a.nights) (pushed at b.held.run b.nights)) (same_start AU_LONG_START a.held.run b.held.run (omega arith) g.run)
     (covered_pushed at b.held.run a.nights b.nights i.dates h.nights) in
     let n = covered_later at (at + minutes 1) (pushed at a.held.run a.nights) (pushed at b.held.run b.nights) (omega arith) m in (
-      and_from (may_spend (begun a.held)) (nights_ok (at + minutes 1) (pushed at a.held.run a.nights)) (covered_may (begun a.held) (begun b.held) (covered_begun a.held b.held h.held) c.0)
+      and_from (may_spend (begun a.held)) (nights_ok (at + minutes 1) (pushed at a.held.run a.nights)) (covered_may (begun a.held) (begun b.held) (covered_begun a.held b.held g) c.0)
           (ok_covered (at + minutes 1) (pushed at a.held.run a.nights) (pushed at b.held.run b.nights) n c.1),
       record {
-        held = covered_duty a.held b.held i.held c.0 h.held;
+        held = strict_held (after_duty a.held) (after_duty b.held) (covered_duty a.held b.held i.held c.0 g);
         nights = covered_open (at + minutes 1) (pushed at a.held.run a.nights) (pushed at b.held.run b.nights)
             (λ t o r. over_by (at + minutes 1) (at + minutes 1 + minutes AU_NIGHT_REST) (pushed at b.held.run b.nights) t (omega arith) r
             (all_one (has_nights (at + minutes 1 + minutes AU_NIGHT_REST) (pushed at b.held.run b.nights).dates) (pushed at b.held.run b.nights).starts c.1 t o)) n;
@@ -576,11 +697,11 @@ covered_duty_state a b at i e h =
 
 covered_rest_state : (a b : HvnlState) (at : ℕ) → IsHvnlState b at → IsCovered a b at → IsCovered (rest_state a at) (rest_state b at) (at + minutes 1)
 covered_rest_state a b at i h =
-    let c = covered_passed a.held b.held i.held h.held in
+    let c = covered_passed a.held b.held i.held i.few.kinds h.held in
     let more : ℕ = (after_rest a.held).run in
     let run : ℕ = (after_rest b.held).run in
     let few = i.run in
-    let n = covered_later at (at + minutes 1) (dated at more a.nights) (dated at run b.nights) (omega arith) (covered_dated at more run a.nights b.nights (run_less more run c.run) h.nights) in
+    let n = covered_later at (at + minutes 1) (dated at more a.nights) (dated at run b.nights) (omega arith) (covered_dated at more run a.nights b.nights (met_less (after_rest a.held) (after_rest b.held) c) h.nights) in
     record {
       held = c;
       nights = covered_open (at + minutes 1) (dated at more a.nights) (dated at run b.nights)
