@@ -14,8 +14,8 @@ no_base full p Marked i none b u h = elim h [
   | inr s ↦ none s.from s.to s.waits.last.declared s.waits.last.before
 ]
 
-pub none_found : (full : ℕ) (p : List Activity) (Marked : ℕ → Type 0) (i : ℕ) (found : Option Base) → found ≡ None → ((a b : ℕ) → IsDeclared full p Marked a b → b ≤ i → ⊥) → IsBaseFound full p Marked i found
-none_found full p Marked i found e none = subst (IsBaseFound full p Marked i) (sym e) (no_base full p Marked i none)
+pub none_found : (full : ℕ) (p : List Activity) (Marked : ℕ → Type 0) (i : ℕ) (found : Option Base) → found ≡ None → ((a b : ℕ) → IsDeclared full p Marked a b → b ≤ i → ⊥) → IsBaseFound (IsBase full p Marked i) found
+none_found full p Marked i found e none = subst (IsBaseFound (IsBase full p Marked i)) (sym e) (no_base full p Marked i none)
 
 -- where the last declared rest is split, and none has ended before it
 no_base_before : (full : ℕ) (p : List Activity) (Marked : ℕ → Type 0) (i from to : ℕ) → IsLastDeclared full p Marked i from to → to < from + full → ((a b : ℕ) → IsDeclared full p Marked a b → b ≤ from → ⊥) →
@@ -29,5 +29,5 @@ no_base_before full p Marked i from to l short none b u h = elim h [
 ]
 
 pub none_found_before : (full : ℕ) (p : List Activity) (Marked : ℕ → Type 0) (i from to : ℕ) (found : Option Base) → found ≡ None → IsLastDeclared full p Marked i from to → to < from + full →
-    ((a b : ℕ) → IsDeclared full p Marked a b → b ≤ from → ⊥) → IsBaseFound full p Marked i found
-none_found_before full p Marked i from to found e l short none = subst (IsBaseFound full p Marked i) (sym e) (no_base_before full p Marked i from to l short none)
+    ((a b : ℕ) → IsDeclared full p Marked a b → b ≤ from → ⊥) → IsBaseFound (IsBase full p Marked i) found
+none_found_before full p Marked i from to found e l short none = subst (IsBaseFound (IsBase full p Marked i)) (sym e) (no_base_before full p Marked i from to l short none)

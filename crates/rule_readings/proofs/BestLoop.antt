@@ -1,5 +1,5 @@
 -- The best value among those of the places so far.
-use Rattle.std.proofs.Common.{◌≡◌, ℕ, ◌+◌, ◌<◌, ◌≤◌, Option, Some, None, subst, sym, arith, inl, inr}
+use Rattle.std.proofs.Common.{◌≡◌, ℕ, ◌+◌, ◌<◌, ◌≤◌, Option, Some, None, subst, arith, inl, inr}
 use Rattle.std.proofs.lemmas.Bool.{cases_eq}
 use Rattle.rule_readings.specs.declared.best.Order.{Order}
 use Rattle.rule_readings.specs.declared.best.Order.TheVariants.{Greatest, Least}

@@ -7,10 +7,11 @@ use Rattle.std.proofs.lemmas.List.Sums.{sum_by-take-drop, count_by-le-length}
 use Rattle.duty_core.specs.declared.activity.Activity.{Activity}
 use Rattle.duty_core.specs.declared.activity.Activity.TheVariants.{Off}
 use Rattle.duty_core.specs.declared.params.Params.{Params}
-use Rattle.duty_core.specs.declared.params.Params.TheVariants.{UsProperty, Canada, Hvnl}
+use Rattle.duty_core.specs.declared.limits.TheConstants.{DAY_MINUTES, PADDING_DAYS, PADDING_MINUTES}
 use Rattle.duty_core.specs.Params.{unit_minutes}
-use Rattle.duty_core.specs.History.{pad_days, pad_units, padded, padding, between}
+use Rattle.duty_core.specs.History.{pad_units, padded, padding, between}
 use Rattle.rule_readings.specs.Padded.{AreCounts}
+use Rattle.rule_readings.proofs.Books.{book_unit}
 
 -- what stands of the counts after i units
 pub record AreCountsUpTo (test : Activity → Bool) (p : List Activity) (i total : ℕ) (counts : List ℕ) : Type 0 where
@@ -49,17 +50,14 @@ count_between test p counts from to h l m =
     let d = sum_by-take-drop (λ x. cond (test x) 1 0) (take to p) from in
     omega (arith, a, b, c, d)
 
-pub padding_short : (params : Params) → pad_units params ≤ 40320
-unfolding pad_days
-padding_short (UsProperty berth days start) = omega arith
-padding_short (Canada berth way cycle start) = omega arith
-padding_short Hvnl = omega arith
+pub padding_short : (params : Params) → pad_units params ≤ PADDING_MINUTES
+padding_short params = elim (book_unit params) [ inl h ↦ (let p = h.padding in omega arith) | inr h ↦ (let p = h.padding in omega arith) ]
 
-pub padding_value : (params : Params) (n : ℕ) → n ≡ unit_minutes params → 28 * (1440 / n) ≡ pad_units params
-unfolding pad_days
-padding_value (UsProperty berth days start) n e = omega (arith, ap (λ k. 1440 / k) e)
-padding_value (Canada berth way cycle start) n e = omega (arith, ap (λ k. 1440 / k) e)
-padding_value Hvnl n e = omega (arith, ap (λ k. 1440 / k) e)
+pub padding_value : (params : Params) (n : ℕ) → n ≡ unit_minutes params → PADDING_DAYS * (DAY_MINUTES / n) ≡ pad_units params
+padding_value params n e = elim (book_unit params) [
+  | inl h ↦ (let p = h.padding in let q = ap (λ k. DAY_MINUTES / k) (e ∙ h.unit) in omega arith)
+  | inr h ↦ (let p = h.padding in let q = ap (λ k. DAY_MINUTES / k) (e ∙ h.unit) in omega arith)
+]
 
 pub length-padded : (params : Params) (h : List Activity) → length (padded params h) ≡ 2 * pad_units params + length h
 length-padded params h =

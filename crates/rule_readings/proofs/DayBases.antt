@@ -1,13 +1,14 @@
 -- From which place the duty of some days is counted.
-use Rattle.std.proofs.Common.{◌≡◌, ℕ, ◌+◌, ◌-◌, ◌*◌, ◌/◌, ◌<◌, ◌≤◌, List, max, arith, inl, inr}
+use Rattle.std.proofs.Common.{◌≡◌, ℕ, ◌+◌, ◌-◌, ◌*◌, ◌/◌, ◌<◌, ◌≤◌, List, max, ap, arith, inl, inr}
 use Rattle.duty_core.specs.declared.activity.Activity.{Activity}
 use Rattle.duty_core.specs.declared.params.Params.{Params}
-use Rattle.duty_core.specs.declared.params.Params.TheVariants.{UsProperty, Canada, Hvnl}
+use Rattle.duty_core.specs.declared.limits.TheConstants.{DAY_MINUTES}
 use Rattle.duty_core.specs.Params.{unit_minutes}
 use Rattle.duty_core.specs.RestRun.{IsLongRun}
 use Rattle.duty_core.specs.DeclaredRest.{IsLastDeclared}
 use Rattle.duty_core.specs.Counting.{IsLastEnd, IsDaysBase}
 use Rattle.duty_core.specs.Day.{day_start, day_number, IsFirstOfDays}
+use Rattle.rule_readings.proofs.Books.{book_unit}
 
 -- # Long rests: declared rests where no mark names any
 
@@ -26,25 +27,26 @@ end_of_unmarked least p i from to h = record {
 
 -- days follow each other as places do
 pub days_rise : (params : Params) (first j k : ℕ) → j ≤ k → day_number params first j ≤ day_number params first k
-days_rise (UsProperty berth days start) first j k l = omega arith
-days_rise (Canada berth way cycle start) first j k l = omega arith
-days_rise Hvnl first j k l = omega arith
+days_rise params first j k l = elim (book_unit params) [
+  | inl h ↦ (let a = ap (λ u. u * j) h.unit in let b = ap (λ u. u * k) h.unit in omega arith)
+  | inr h ↦ (let a = ap (λ u. u * j) h.unit in let b = ap (λ u. u * k) h.unit in omega arith)
+]
 
 -- the first place of the last days, from the day of place i
-pub first_day : (params : Params) (first days i begins today missing d : ℕ) → 0 < days → begins ≡ first + (1440 - day_start params) → today ≡ (begins + unit_minutes params * i) / 1440 →
-    missing ≡ (today + 1 - days) * 1440 - begins → d ≡ (missing + unit_minutes params - 1) / unit_minutes params → IsFirstOfDays (day_number params first) days i d
-first_day (UsProperty berth days start) first n i begins today missing d pos_days b t m e = record {
-  inside = omega arith;
-  first = λ k h. omega arith;
-}
-first_day (Canada berth way cycle start) first n i begins today missing d pos_days b t m e = record {
-  inside = omega arith;
-  first = λ k h. omega arith;
-}
-first_day Hvnl first n i begins today missing d pos_days b t m e = record {
-  inside = omega arith;
-  first = λ k h. omega arith;
-}
+pub first_day : (params : Params) (first days i begins today missing d : ℕ) → 0 < days → begins ≡ first + (DAY_MINUTES - day_start params) → today ≡ (begins + unit_minutes params * i) / DAY_MINUTES →
+    missing ≡ (today + 1 - days) * DAY_MINUTES - begins → d ≡ (missing + unit_minutes params - 1) / unit_minutes params → IsFirstOfDays (day_number params first) days i d
+first_day params first n i begins today missing d pos_days b t m e = elim (book_unit params) [
+  | inl h ↦
+      let u = ap (λ u. (missing + u - 1) / u) h.unit in
+      let x = ap (λ u. u * i) h.unit in
+      let y = ap (λ u. u * d) h.unit in
+      record { inside = omega arith; first = λ k g. let z = ap (λ u. u * k) h.unit in omega arith }
+  | inr h ↦
+      let u = ap (λ u. (missing + u - 1) / u) h.unit in
+      let x = ap (λ u. u * i) h.unit in
+      let y = ap (λ u. u * d) h.unit in
+      record { inside = omega arith; first = λ k g. let z = ap (λ u. u * k) h.unit in omega arith }
+]
 
 pub first_before : (day : ℕ → ℕ) (days i d : ℕ) → 0 < days → IsFirstOfDays day days i d → d ≤ i
 first_before day days i d l h = h.first i (omega arith)

@@ -1,5 +1,5 @@
 -- Declared rests among the rest runs of a padded history.
-use Rattle.std.proofs.Common.{◌≡◌, ℕ, ◌+◌, ◌-◌, ◌*◌, ◌<◌, ◌≤◌, ◌↔◌, List, Option, Some, None, Contains, length, get_or, leb, true, false, sym, ◌∙◌, ap, subst, arith, inl, inr, refl}
+use Rattle.std.proofs.Common.{◌≡◌, ℕ, ◌+◌, ◌-◌, ◌*◌, ◌<◌, ◌≤◌, ◌↔◌, List, Option, Some, None, Contains, length, get_or, leb, true, false, sym, ◌∙◌, ap, subst, arith, inl, inr}
 use Rattle.std.specs.Option.{SomeIff}
 use Rattle.std.proofs.lemmas.Bool.{cases_lt, cases_eq, leb-true}
 use Rattle.std.proofs.lemmas.Bool.Decides.{nat_tests}
@@ -8,9 +8,9 @@ use Rattle.std.proofs.lemmas.Int.{ints}
 use Rattle.std.proofs.lemmas.List.{get_or_default}
 use Rattle.duty_core.specs.declared.activity.Activity.{Activity}
 use Rattle.duty_core.specs.declared.params.Params.{Params}
-use Rattle.duty_core.specs.declared.params.Params.TheVariants.{UsProperty, Canada, Hvnl}
+use Rattle.duty_core.specs.declared.limits.TheConstants.{PADDING_MINUTES}
 use Rattle.duty_core.specs.Params.{unit_minutes}
-use Rattle.duty_core.specs.History.{pad_days, pad_units}
+use Rattle.duty_core.specs.History.{pad_units}
 use Rattle.duty_core.specs.declared.mark.Mark.{Mark}
 use Rattle.duty_core.specs.declared.mark.Mark.TheVariants.{SplitRest}
 use Rattle.duty_core.specs.Marks.{IsMinuteOf, IsSplitAt}
@@ -20,22 +20,20 @@ use Rattle.duty_core.specs.Laws.UniqueLaws.{declared_run}
 use Rattle.rule_readings.specs.declared.padded.RestRun.{RestRun}
 use Rattle.rule_readings.specs.Padded.{AreRestRuns}
 use Rattle.rule_readings.specs.Found.{DeclaresRun}
+use Rattle.rule_readings.proofs.Books.{book_unit}
 
 -- # Minutes
 
-padding_minutes : (params : Params) → unit_minutes params * pad_units params ≡ 40320
-unfolding pad_days
-padding_minutes (UsProperty berth days start) = refl
-padding_minutes (Canada berth way cycle start) = refl
-padding_minutes Hvnl = refl
+padding_minutes : (params : Params) → unit_minutes params * pad_units params ≡ PADDING_MINUTES
+padding_minutes params = elim (book_unit params) [ inl h ↦ ap (λ u. u * pad_units params) h.unit ∙ h.padding | inr h ↦ ap (λ u. u * pad_units params) h.unit ∙ h.padding ]
 
-pub minute_is : (params : Params) (first place at : ℕ) → IsMinuteOf params first at place ↔ (at + 40320 ≡ first + unit_minutes params * place)
+pub minute_is : (params : Params) (first place at : ℕ) → IsMinuteOf params first at place ↔ (at + PADDING_MINUTES ≡ first + unit_minutes params * place)
 minute_is params first place at = (
   (λ e. let m = padding_minutes params in omega (arith, ints, e)),
   (λ e. let m = padding_minutes params in omega (arith, ints, e)),
 )
 
-pub minute_answer : (r : Option ℕ) (n : ℕ) → SomeIff r (40320 ≤ n) (n - 40320) → (at : ℕ) → (at + 40320 ≡ n) ↔ (r ≡ Some at)
+pub minute_answer : (r : Option ℕ) (n : ℕ) → SomeIff r (PADDING_MINUTES ≤ n) (n - PADDING_MINUTES) → (at : ℕ) → (at + PADDING_MINUTES ≡ n) ↔ (r ≡ Some at)
 minute_answer None n h at = ((λ e. absurd (h (omega arith))), (λ e. absurd (cc)))
 minute_answer (Some m) n h at = (
   (λ e. let l = h.0 in let v = h.1 in let q : m ≡ at = omega arith in ap Some q),

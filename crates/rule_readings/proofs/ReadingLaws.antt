@@ -1,32 +1,29 @@
 -- There is one list of readings, and each agrees with its rule.
-use Rattle.std.proofs.Common.{◌≡◌, ℕ, ◌+◌, ◌-◌, ◌*◌, ◌<◌, ◌≤◌, ◌↔◌, List, [], ◌∷◌, Option, Some, None, length, get_or, refl, sym, ◌∙◌, ap, subst, arith, inl, inr, suc}
+use Rattle.std.proofs.Common.{◌≡◌, ℕ, ◌+◌, ◌-◌, ◌*◌, ◌≤◌, ◌↔◌, List, [], ◌∷◌, Option, Some, None, refl, sym, ◌∙◌, ap, subst, arith, suc}
 use Rattle.std.specs.Prelude.{All, map}
 use Rattle.duty_core.specs.declared.activity.Activity.{Activity}
 use Rattle.duty_core.specs.declared.activity.Activity.TheVariants.{Drive}
 use Rattle.duty_core.specs.declared.mark.Mark.{Mark}
 use Rattle.duty_core.specs.declared.params.Params.{Params}
 use Rattle.duty_core.specs.declared.rule.Rule.{Rule}
-use Rattle.duty_core.specs.declared.rule.Rule.TheVariants.{UsWindow14, UsDrive11, UsBreak8, UsWeek, UsPair, CaDay13, CaDay14, CaShift13, CaShift14, CaElapsed16, CaOff10, CaDefer, CaPair, Ca24in14, CaCycle, Ca70without24, Au5h30, Au8h, Au11h, Au24h, Au24hRest, Au7d, Au7dRest, Au14d, Au14dNights}
-use Rattle.duty_core.specs.declared.limits.TheConstants.{CA_BOTH_LOST_LIMIT, CA_DAY_OFF, CA_DAY_OFF_WITHIN, AU_24H_REST, AU_7D_REST, AU_14D_NIGHTS}
+use Rattle.duty_core.specs.declared.limits.TheConstants.{CA_DAY_OFF, CA_DAY_OFF_WITHIN}
 use Rattle.duty_core.specs.Params.{unit_minutes}
 use Rattle.duty_core.specs.History.{unit_at, padded}
 use Rattle.duty_core.specs.Stretch.{HoldsRest}
 use Rattle.duty_core.specs.Counting.{IsLastEnd}
-use Rattle.duty_core.specs.Day.{day_number}
-use Rattle.duty_core.specs.LostMinutes.{lost}
-use Rattle.duty_core.specs.Laws.FrontLaws.{day_has_number}
 use Rattle.duty_core.specs.RuleBooks.{Keeps}
 use Rattle.rule_readings.specs.declared.best.Order.{Order}
 use Rattle.rule_readings.specs.declared.best.Order.TheVariants.{Greatest, Least}
 use Rattle.rule_readings.specs.declared.reading.Reading.{Reading}
 use Rattle.rule_readings.specs.declared.scope.Scope.{Scope}
-use Rattle.rule_readings.specs.declared.ca_cycle.TheConstants.{CA_SINCE_DAY_OFF_LIMIT}
+use Rattle.rule_readings.specs.declared.measure.TheConstants.{CA_SINCE_DAY_OFF_LIMIT}
+use Rattle.rule_readings.specs.Asked.{asked_of, order_of}
 use Rattle.rule_readings.specs.Best.{IsNoBetter, IsBestFirst}
-use Rattle.rule_readings.specs.Values.{IsValue, order_of, limit_of}
+use Rattle.rule_readings.specs.Values.{IsValue}
 use Rattle.rule_readings.specs.Readings.{scope_of, IsReading, IsReadingFound, AreReadings, IsWithin}
+use Rattle.rule_readings.proofs.DayOff.{day_off_back, day_off_from}
 use Rattle.rule_readings.proofs.DeclaredRuns.{minute_is}
-use Rattle.rule_readings.proofs.UsPlaces as us
-use Rattle.rule_readings.proofs.CaPlaces as ca
+use Rattle.rule_readings.proofs.RuleLaws.{kept_within}
 
 -- # One list of readings
 
@@ -55,7 +52,7 @@ same_reading a b u l t =
 
 reading_once : (s : Scope) (p : List Activity) (marks : List Mark) (rule : Rule) (a b : Reading) → IsReading s p marks rule a → IsReading s p marks rule b → a ≡ b
 reading_once s p marks rule a b h g =
-    let o = best_once (order_of rule) (IsValue s p marks rule) h.place a.used g.place b.used h.best g.best in
+    let o = best_once (order_of (asked_of s.params rule).measure) (IsValue s p marks rule) h.place a.used g.place b.used h.best g.best in
     let x = (minute_is s.params s.first h.place a.at).0 h.minute in
     let y = (minute_is s.params s.first g.place b.at).0 g.minute in
     let q = ap (λ k. s.first + unit_minutes s.params * k) o.place in
@@ -87,46 +84,12 @@ readings_once params first from h marks these those x y =
 
 -- # Readings and their rules
 
-value_within : (params : Params) (first from : ℕ) (h : List Activity) (marks : List Mark) (rule : Rule) (i n : ℕ) → Keeps params first h marks rule → IsValue (scope_of params first h from) (padded params h) marks rule i n →
-    IsWithin (order_of rule) (limit_of params rule) n
-value_within params first from h marks UsWindow14 i n k g = (us.counts_kept params first (padded params h) marks UsWindow14 tt).1 k i n g.count
-value_within params first from h marks UsDrive11 i n k g = (us.counts_kept params first (padded params h) marks UsDrive11 tt).1 k i n g.count
-value_within params first from h marks UsBreak8 i n k g = (us.counts_kept params first (padded params h) marks UsBreak8 tt).1 k i n g.count
-value_within params first from h marks UsWeek i n k g = (us.counts_kept params first (padded params h) marks UsWeek tt).1 k i n g.count
-value_within params first from h marks UsPair i n k g = (let l = (k.pairs g.to_next i g.to g.from_next g.split g.next).sum in let e = g.sum in omega arith)
-value_within params first from h marks CaDay13 i n k g = ca.keeps_within params first (padded params h) marks CaDay13 tt k i n g.count
-value_within params first from h marks CaDay14 i n k g = ca.keeps_within params first (padded params h) marks CaDay14 tt k i n g.count
-value_within params first from h marks CaShift13 i n k g = ca.keeps_within params first (padded params h) marks CaShift13 tt k i n g.count
-value_within params first from h marks CaShift14 i n k g = ca.keeps_within params first (padded params h) marks CaShift14 tt k i n g.count
-value_within params first from h marks CaElapsed16 i n k g = ca.keeps_within params first (padded params h) marks CaElapsed16 tt k i n g.count
-value_within params first from h marks CaOff10 i n k g = elim (k (day_number params first i)) [ inl d ↦ absurd (g.free d) | inr l ↦ (let e = g.counted in omega arith) ]
-value_within params first from h marks CaDefer i n k g = (
-    let day = day_number params first in
-    let d = k g.deferred.day g.deferred.marked in
-    let e = day_has_number g.deferred.day d.number (day i) d.numbered g.deferred.numbered in
-    let l : lost day (padded params h) (day i) + lost day (padded params h) (day i + 1) ≤ CA_BOTH_LOST_LIMIT = subst (λ j. lost day (padded params h) j + lost day (padded params h) (j + 1) ≤ CA_BOTH_LOST_LIMIT) e d.defers.both in
-    let c = g.counted in
-    omega arith)
-value_within params first from h marks CaPair i n k g = (let l = (k.pairs g.to_next i g.to g.from_next g.split g.next).sum in let e = g.sum in omega arith)
-value_within params first from h marks Ca24in14 i n k g = ca.keeps_within params first (padded params h) marks Ca24in14 tt k i n g.count
-value_within params first from h marks CaCycle i n k g = ca.keeps_within params first (padded params h) marks CaCycle tt k i n g.count
-value_within params first from h marks Ca70without24 i n k g = ca.keeps_within params first (padded params h) marks Ca70without24 tt k i n g.count
-value_within params first from h marks Au5h30 i n k g = (let l = k i g.period.start in let e = g.counted in omega arith)
-value_within params first from h marks Au8h i n k g = (let l = k i g.period.start in let e = g.counted in omega arith)
-value_within params first from h marks Au11h i n k g = (let l = k i g.period.start in let e = g.counted in omega arith)
-value_within params first from h marks Au24h i n k g = (let l = k i g.period.start in let e = g.counted in omega arith)
-value_within params first from h marks Au24hRest i n k g = (let l = g.longest.longest AU_24H_REST (k i g.period.start) in let e = g.counted in omega arith)
-value_within params first from h marks Au7d i n k g = (let l = k i g.period.start in let e = g.counted in omega arith)
-value_within params first from h marks Au7dRest i n k g = (let l = g.longest.longest AU_7D_REST (k i g.period.start) in let e = g.counted in omega arith)
-value_within params first from h marks Au14d i n k g = (let l = k i g.period.start in let e = g.counted in omega arith)
-value_within params first from h marks Au14dNights i n k g = g.most AU_14D_NIGHTS (k i g.period.start).0
-
 pub reading_within : (params : Params) (first from : ℕ) (h : List Activity) (marks : List Mark) (rule : Rule) (reading : Reading) → Keeps params first h marks rule → IsReading (scope_of params first h from) (padded params h) marks rule reading →
-    IsWithin (order_of rule) reading.limit reading.used
+    IsWithin (order_of (asked_of params rule).measure) reading.limit reading.used
 reading_within params first from h marks rule reading k g =
-    subst (λ limit. IsWithin (order_of rule) limit reading.used) (sym g.limit) (value_within params first from h marks rule g.place reading.used k g.best.there)
+    subst (λ limit. IsWithin (order_of (asked_of params rule).measure) limit reading.used) (sym g.limit) (kept_within (scope_of params first h from) (padded params h) marks rule g.place reading.used k g.best.there)
 
 -- # 24 hours of rest in 14 days
 
 pub day_off_two_ways : (p : List Activity) (i to : ℕ) → unit_at p i ≡ Drive → IsLastEnd CA_DAY_OFF p i to → HoldsRest CA_DAY_OFF p (i - CA_DAY_OFF_WITHIN) i ↔ (i ≤ to + CA_SINCE_DAY_OFF_LIMIT)
-day_off_two_ways p i to d h = ((λ r. let l = ca.day_off_back p i to d h r in omega arith), (λ l. ca.day_off_from p i to h (omega arith)))
+day_off_two_ways p i to d h = ((λ r. let l = day_off_back p i to d h r in omega arith), (λ l. day_off_from p i to h (omega arith)))

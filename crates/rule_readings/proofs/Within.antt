@@ -1,12 +1,12 @@
--- Counts within a limit.
-use Rattle.std.proofs.Common.{◌≡◌, ℕ, ◌≤◌, Option, Some, None, IfSome, subst}
+-- Values within a limit.
+use Rattle.std.proofs.Common.{◌≡◌, ℕ, Option, Some, None, IfSome, subst}
 use Rattle.rule_readings.specs.Count.{IsCount}
 
--- what an answer within a limit says of the count
-pub count_within : (Counted : ℕ → Type 0) (answer : Option ℕ) (limit : ℕ) → IsCount Counted answer → ((n m : ℕ) → Counted n → Counted m → n ≡ m) → IfSome answer (λ n. n ≤ limit) → (n : ℕ) → Counted n → n ≤ limit
-count_within Counted None limit h one w n c = absurd (h n c)
-count_within Counted (Some m) limit h one w n c = subst (λ k. k ≤ limit) (one m n h c) w
+-- what an answer within a limit says of the value
+pub value_within : (Counted Met : ℕ → Type 0) (answer : Option ℕ) → IsCount Counted answer → ((n m : ℕ) → Counted n → Counted m → n ≡ m) → IfSome answer Met → (n : ℕ) → Counted n → Met n
+value_within Counted Met None h one w n c = absurd (h n c)
+value_within Counted Met (Some m) h one w n c = subst Met (one m n h c) w
 
-pub within_count : (Counted : ℕ → Type 0) (answer : Option ℕ) (limit : ℕ) → IsCount Counted answer → ((n : ℕ) → Counted n → n ≤ limit) → IfSome answer (λ n. n ≤ limit)
-within_count Counted None limit h w = tt
-within_count Counted (Some m) limit h w = w m h
+pub within_value : (Counted Met : ℕ → Type 0) (answer : Option ℕ) → IsCount Counted answer → ((n : ℕ) → Counted n → Met n) → IfSome answer Met
+within_value Counted Met None h w = tt
+within_value Counted Met (Some m) h w = w m h

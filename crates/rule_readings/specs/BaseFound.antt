@@ -1,9 +1,12 @@
--- What a search for the base of a place of a padded history p gives.
-use Rattle.std.specs.Prelude.{ℕ, List, Option, MatchOption}
-use Rattle.duty_core.specs.declared.activity.Activity.{Activity}
-use Rattle.duty_core.specs.Base.{IsBase}
+-- What a search for a place from which is counted gives.
+use Rattle.std.specs.Prelude.{ℕ, Option, None, Some, MatchOption}
 use Rattle.rule_readings.specs.declared.base.Base.{Base}
 
--- the base of place i, where there is one
-abbrev pub IsBaseFound : ℕ → List Activity → (ℕ → Type 0) → ℕ → Option Base → Type 0
-IsBaseFound full p Marked i found = MatchOption found ((b u : ℕ) → IsBase full p Marked i b u → ⊥) (λ at. IsBase full p Marked i at.base at.omitted)
+-- the place, and how many units time omits, where there is one
+abbrev pub IsBaseFound : (ℕ → ℕ → Type 0) → Option Base → Type 0
+IsBaseFound From found = MatchOption found ((b u : ℕ) → From b u → ⊥) (λ at. From at.base at.omitted)
+
+-- a place from which time omits nothing
+abbrev pub whole : Option ℕ → Option Base
+whole None = None
+whole (Some from) = Some (record { base = from; omitted = 0 })

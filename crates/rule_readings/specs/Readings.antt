@@ -11,7 +11,8 @@ use Rattle.rule_readings.specs.declared.reading.Reading.{Reading}
 use Rattle.rule_readings.specs.declared.scope.Scope.{Scope}
 use Rattle.rule_readings.specs.declared.best.Order.{Order}
 use Rattle.rule_readings.specs.Best.{IsNoBetter, IsBestFirst}
-use Rattle.rule_readings.specs.Values.{IsValue, order_of, limit_of}
+use Rattle.rule_readings.specs.Asked.{asked_of, order_of}
+use Rattle.rule_readings.specs.Values.{IsValue}
 
 -- The history h begins at the minute `first`, and its units from number `from` on are the schedule. Both are spans of the padded history.
 abbrev pub scope_of : Params → ℕ → List Activity → ℕ → Scope
@@ -34,8 +35,8 @@ pub record IsScope (s : Scope) (p : List Activity) : Type 0 where
 pub record IsReading (s : Scope) (p : List Activity) (marks : List Mark) (rule : Rule) (reading : Reading) : Type 0 where
   pub place : ℕ
   pub minute : IsMinuteOf s.params s.first reading.at place
-  pub best : IsBestFirst (order_of rule) (IsValue s p marks rule) place reading.used
-  pub limit : reading.limit ≡ limit_of s.params rule
+  pub best : IsBestFirst (order_of (asked_of s.params rule).measure) (IsValue s p marks rule) place reading.used
+  pub limit : reading.limit ≡ (asked_of s.params rule).limit
 
 -- the value is within the limit: at most it, or at least it where the least value is told
 abbrev pub IsWithin : Order → ℕ → ℕ → Type 0

@@ -5,9 +5,10 @@ use Rattle.duty_core.specs.declared.mark.Mark.{Mark}
 use Rattle.duty_core.specs.declared.params.Params.{Params}
 use Rattle.duty_core.specs.declared.params.Params.TheVariants.{Hvnl}
 use Rattle.duty_core.specs.declared.rule.Rule.{Rule}
-use Rattle.duty_core.specs.declared.rule.Rule.TheVariants.{UsWindow14, UsDrive11, UsBreak8, UsWeek, UsPair, CaDay13, CaDay14, CaShift13, CaShift14, CaElapsed16, CaOff10, CaDefer, CaPair, Ca24in14, CaCycle, Ca70without24, Au5h30, Au8h, Au11h, Au24h, Au24hRest, Au7d, Au7dRest, Au14d, Au14dNights}
-use Rattle.duty_core.specs.declared.limits.TheConstants.{US_FULL_REST, US_PAIR_LEAST, CA_FULL_REST, CA_PAIR_LEAST, CA_LOST_LIMIT, CA_BOTH_LOST_LIMIT, AU_SHORT_START, AU_LONG_START, AU_5H30_PERIOD, AU_5H30_DUTY, AU_8H_PERIOD, AU_8H_DUTY, AU_11H_PERIOD, AU_11H_DUTY, AU_24H_PERIOD, AU_24H_DUTY, AU_24H_REST, AU_7D_PERIOD, AU_7D_DUTY, AU_7D_REST, AU_14D_PERIOD, AU_14D_DUTY, AU_14D_NIGHTS}
-use Rattle.duty_core.specs.Params.{unit_minutes}
+use Rattle.duty_core.specs.declared.rule.Rule.TheVariants.{UsPair, CaOff10, CaDefer, CaPair, Au14dNights}
+use Rattle.duty_core.specs.declared.limits.TheConstants.{AU_LONG_START, AU_14D_PERIOD}
+use Rattle.duty_core.specs.Params.{unit_minutes, BeginsUnit}
+use Rattle.duty_core.specs.History.{pad_units}
 use Rattle.duty_core.specs.Counting.{duty}
 use Rattle.duty_core.specs.Day.{day_number}
 use Rattle.duty_core.specs.Marks.{IsSplitAt, IsDeferred}
@@ -18,12 +19,15 @@ use Rattle.duty_core.specs.AuPeriods.{IsStart}
 use Rattle.duty_core.specs.AuNights.{HasNights}
 use Rattle.rule_readings.specs.declared.scope.Span.{Span}
 use Rattle.rule_readings.specs.declared.scope.Scope.{Scope}
-use Rattle.rule_readings.specs.declared.best.Order.{Order}
-use Rattle.rule_readings.specs.declared.best.Order.TheVariants.{Greatest, Least}
-use Rattle.rule_readings.specs.AuCounts.{IsLongestRest}
+use Rattle.rule_readings.specs.declared.measure.Measure.{Measure}
+use Rattle.rule_readings.specs.declared.measure.Measure.TheVariants.{Nothing, AtDriving, PairSum, Loss, DeferredLoss, PeriodDuty, PeriodRest, PeriodNights}
+use Rattle.rule_readings.specs.declared.measure.Asked.{Asked}
+use Rattle.rule_readings.specs.Asked.{asked_of, order_of}
+use Rattle.rule_readings.specs.AuCounts.{rest_of, IsLongestRest}
+use Rattle.rule_readings.specs.Best.{IsNoBetter}
 use Rattle.rule_readings.specs.CaDays.{BeginsDay}
-use Rattle.rule_readings.specs.CaCounts.{IsCaCount, ca_limit}
-use Rattle.rule_readings.specs.UsCounts.{IsUsCount, us_limit}
+use Rattle.rule_readings.specs.CaHistory.{IsByMinutes}
+use Rattle.rule_readings.specs.Counts.{HasDays, IsCountAt}
 
 -- place k is one of the span
 pub record IsIn (span : Span) (k : ℕ) : Type 0 where
@@ -105,74 +109,43 @@ pub record IsPeriodNights (span : Span) (rested units first : ℕ) (p : List Act
   pub broken : HasNights n first p i units
   pub most : (least : ℕ) → HasNights least first p i units → least ≤ n
 
--- # Rules
+-- # Measures
 
--- what the rule's reading looks at: the value n at place i
+-- what is looked at: the value n at place i
+abbrev pub IsMeasured : Measure → Scope → List Activity → List Mark → ℕ → ℕ → Type 0
+IsMeasured Nothing s p marks i n = ⊥
+IsMeasured (AtDriving amount since) s p marks i n = IsPlannedCount s.planned (IsCountAt amount since (day_number s.params s.first) p (IsSplitAt s.params s.first marks)) i n
+IsMeasured (PairSum full) s p marks i n = IsPairSum full p (IsSplitAt s.params s.first marks) i n
+IsMeasured Loss s p marks i n = IsLoss s.planned (day_number s.params s.first) p (IsDeferred marks) i n
+IsMeasured DeferredLoss s p marks i n = IsDeferredLoss s.history (day_number s.params s.first) p (IsDeferred marks) i n
+IsMeasured (PeriodDuty start units) s p marks i n = IsPeriodDuty s.planned (rest_of start) units p i n
+IsMeasured (PeriodRest units) s p marks i n = IsPeriodRest s.planned AU_LONG_START units p i n
+IsMeasured PeriodNights s p marks i n = IsPeriodNights s.planned AU_LONG_START AU_14D_PERIOD s.first p i n
+
+-- what the rule's reading looks at
 abbrev pub IsValue : Scope → List Activity → List Mark → Rule → ℕ → ℕ → Type 0
-IsValue s p marks UsWindow14 i n = IsPlannedCount s.planned (IsUsCount s.params s.first p marks UsWindow14) i n
-IsValue s p marks UsDrive11 i n = IsPlannedCount s.planned (IsUsCount s.params s.first p marks UsDrive11) i n
-IsValue s p marks UsBreak8 i n = IsPlannedCount s.planned (IsUsCount s.params s.first p marks UsBreak8) i n
-IsValue s p marks UsWeek i n = IsPlannedCount s.planned (IsUsCount s.params s.first p marks UsWeek) i n
-IsValue s p marks UsPair i n = IsPairSum US_FULL_REST p (IsSplitAt s.params s.first marks) i n
-IsValue s p marks CaDay13 i n = IsPlannedCount s.planned (IsCaCount s.params s.first p marks CaDay13) i n
-IsValue s p marks CaDay14 i n = IsPlannedCount s.planned (IsCaCount s.params s.first p marks CaDay14) i n
-IsValue s p marks CaShift13 i n = IsPlannedCount s.planned (IsCaCount s.params s.first p marks CaShift13) i n
-IsValue s p marks CaShift14 i n = IsPlannedCount s.planned (IsCaCount s.params s.first p marks CaShift14) i n
-IsValue s p marks CaElapsed16 i n = IsPlannedCount s.planned (IsCaCount s.params s.first p marks CaElapsed16) i n
-IsValue s p marks CaOff10 i n = IsLoss s.planned (day_number s.params s.first) p (IsDeferred marks) i n
-IsValue s p marks CaDefer i n = IsDeferredLoss s.history (day_number s.params s.first) p (IsDeferred marks) i n
-IsValue s p marks CaPair i n = IsPairSum CA_FULL_REST p (IsSplitAt s.params s.first marks) i n
-IsValue s p marks Ca24in14 i n = IsPlannedCount s.planned (IsCaCount s.params s.first p marks Ca24in14) i n
-IsValue s p marks CaCycle i n = IsPlannedCount s.planned (IsCaCount s.params s.first p marks CaCycle) i n
-IsValue s p marks Ca70without24 i n = IsPlannedCount s.planned (IsCaCount s.params s.first p marks Ca70without24) i n
-IsValue s p marks Au5h30 i n = IsPeriodDuty s.planned AU_SHORT_START AU_5H30_PERIOD p i n
-IsValue s p marks Au8h i n = IsPeriodDuty s.planned AU_SHORT_START AU_8H_PERIOD p i n
-IsValue s p marks Au11h i n = IsPeriodDuty s.planned AU_SHORT_START AU_11H_PERIOD p i n
-IsValue s p marks Au24h i n = IsPeriodDuty s.planned AU_LONG_START AU_24H_PERIOD p i n
-IsValue s p marks Au24hRest i n = IsPeriodRest s.planned AU_LONG_START AU_24H_PERIOD p i n
-IsValue s p marks Au7d i n = IsPeriodDuty s.planned AU_LONG_START AU_7D_PERIOD p i n
-IsValue s p marks Au7dRest i n = IsPeriodRest s.planned AU_LONG_START AU_7D_PERIOD p i n
-IsValue s p marks Au14d i n = IsPeriodDuty s.planned AU_LONG_START AU_14D_PERIOD p i n
-IsValue s p marks Au14dNights i n = IsPeriodNights s.planned AU_LONG_START AU_14D_PERIOD s.first p i n
+IsValue s p marks rule i n = IsMeasured (asked_of s.params rule).measure s p marks i n
 
--- which of the values the reading tells: the least where the rule asks for at least its limit, and else the greatest
-abbrev pub order_of : Rule → Order
-order_of UsPair = Least
-order_of CaPair = Least
-order_of Au24hRest = Least
-order_of Au7dRest = Least
-order_of Au14dNights = Least
-order_of _ = Greatest
+-- the value is within the limit: at most it, or at least it where the least value is told
+abbrev pub MeetsAsked : Asked → ℕ → Type 0
+MeetsAsked asked n = IsNoBetter (order_of asked.measure) asked.limit n
 
--- the limit of a rule of Australia: in minutes, and of the nights in nights
-abbrev pub au_limit : Rule → ℕ
-au_limit Au5h30 = unit_minutes Hvnl * AU_5H30_DUTY
-au_limit Au8h = unit_minutes Hvnl * AU_8H_DUTY
-au_limit Au11h = unit_minutes Hvnl * AU_11H_DUTY
-au_limit Au24h = unit_minutes Hvnl * AU_24H_DUTY
-au_limit Au24hRest = unit_minutes Hvnl * AU_24H_REST
-au_limit Au7d = unit_minutes Hvnl * AU_7D_DUTY
-au_limit Au7dRest = unit_minutes Hvnl * AU_7D_REST
-au_limit Au14d = unit_minutes Hvnl * AU_14D_DUTY
-au_limit Au14dNights = AU_14D_NIGHTS
-au_limit _ = 0
+-- what is wanted of a book and of a history, so that a measure can be taken
+abbrev pub IsAskable : Params → ℕ → Measure → Type 0
+IsAskable params first (AtDriving amount since) = HasDays since
+IsAskable params first (PairSum full) = full ≤ pad_units params
+IsAskable params first Loss = IsByMinutes params first
+IsAskable params first DeferredLoss = IsByMinutes params first
+IsAskable params first (PeriodDuty start units) = units ≤ AU_14D_PERIOD
+IsAskable params first (PeriodRest units) = units ≤ AU_14D_PERIOD
+IsAskable params first PeriodNights = BeginsUnit Hvnl first
+IsAskable params first _ = Unit {0}
 
--- the limit of the rule, as its reading tells it
-abbrev pub limit_of : Params → Rule → ℕ
-limit_of params UsWindow14 = us_limit params UsWindow14
-limit_of params UsDrive11 = us_limit params UsDrive11
-limit_of params UsBreak8 = us_limit params UsBreak8
-limit_of params UsWeek = us_limit params UsWeek
-limit_of params UsPair = US_PAIR_LEAST
-limit_of params CaDay13 = ca_limit params CaDay13
-limit_of params CaDay14 = ca_limit params CaDay14
-limit_of params CaShift13 = ca_limit params CaShift13
-limit_of params CaShift14 = ca_limit params CaShift14
-limit_of params CaElapsed16 = ca_limit params CaElapsed16
-limit_of params CaOff10 = CA_LOST_LIMIT
-limit_of params CaDefer = CA_BOTH_LOST_LIMIT
-limit_of params CaPair = CA_PAIR_LEAST
-limit_of params Ca24in14 = ca_limit params Ca24in14
-limit_of params CaCycle = ca_limit params CaCycle
-limit_of params Ca70without24 = ca_limit params Ca70without24
-limit_of params rule = au_limit rule
+-- A rule asks nothing but that its values are within its limit, unless it asks of marks, of each day or of nights that follow each other.
+abbrev pub IsAskedAtPlaces : Rule → Type 0
+IsAskedAtPlaces UsPair = ⊥
+IsAskedAtPlaces CaOff10 = ⊥
+IsAskedAtPlaces CaDefer = ⊥
+IsAskedAtPlaces CaPair = ⊥
+IsAskedAtPlaces Au14dNights = ⊥
+IsAskedAtPlaces _ = Unit {0}

@@ -4,15 +4,15 @@
 ghost use Rattle.std.specs.Prelude.{◌≡◌, ◌↔◌, ℕ, ◌+◌, ◌^◌, ◌<◌, ◌≤◌, length, IsTrue};
 ghost use Rattle.duty_core.specs.declared.params.Params.TheVariants.{Hvnl};
 ghost use Rattle.duty_core.specs.Params.{day_units, BeginsUnit};
-ghost use Rattle.duty_core.specs.AuNights.{HasBreak};
+ghost use Rattle.duty_core.specs.AuNights.{HasBreak, MeetsAu14dNights};
 ghost use Rattle.rule_readings.specs.AuCounts.{IsAtLongStart};
 ghost use Rattle.rule_readings.specs.AuNightCounts.{IsLongAcross, IsNextMidnight, AreNights};
 
 use crate::au_periods::{Start, is_start, longest_rest, rest_after, rest_before};
 use crate::padded::Padded;
 use duty_core::{
-    AU_14D_PERIOD, AU_NIGHT_AFTER, AU_NIGHT_BEFORE, AU_NIGHT_LONG_REST, AU_NIGHT_REST, DAY_MINUTES,
-    Minute, Params, unit_of,
+    AU_14D_NIGHTS, AU_14D_PERIOD, AU_NIGHT_AFTER, AU_NIGHT_BEFORE, AU_NIGHT_LONG_REST,
+    AU_NIGHT_REST, DAY_MINUTES, Minute, Params, unit_of,
 };
 
 /// What is counted of the nights that lie wholly in a period.
@@ -116,4 +116,30 @@ pub(crate) fn nights_from(padded: &Padded, first: Minute, place: u32) -> Option<
     } else {
         None
     }
+}
+
+/// Whether the fourteen days that begin at the place, if a long start is there, have their nights
+/// with a break.
+fn meets_nights(padded: &Padded, first: Minute, place: u32) -> bool
+    requires begins { BeginsUnit Hvnl first }
+    requires range { place < 2 ^ 29 }
+    ensures { IsTrue result ↔ MeetsAu14dNights first padded.now place }
+{
+    match nights_from(padded, first, place) {
+        Some(nights) => nights.broken >= AU_14D_NIGHTS && nights.consecutive,
+        None => true,
+    }
+}
+
+/// Whether each fourteen days from a long start on have their nights with a break.
+pub(crate) fn keeps_nights(padded: &Padded, first: Minute) -> bool
+    requires begins { BeginsUnit Hvnl first }
+    ensures { IsTrue result ↔ ((i : ℕ) → MeetsAu14dNights first padded.now i) }
+{
+    for place in 0..padded.len() {
+        if !meets_nights(padded, first, place) {
+            return false;
+        }
+    }
+    true
 }

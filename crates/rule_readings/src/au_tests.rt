@@ -4,12 +4,11 @@ ghost use Rattle.std.specs.Prelude.{◌<◌, ◌^◌};
 ghost use Rattle.duty_core.specs.declared.params.Params.TheVariants.{Hvnl};
 ghost use Rattle.duty_core.specs.Params.{BeginsUnit};
 
-use crate::au::keeps_au;
-use crate::au_nights::{Nights, has_break, nights_from};
+use crate::au_nights::{Nights, has_break, keeps_nights, nights_from};
 use crate::au_periods::{Start, duty_from, rest_from};
 use crate::cases::{Case, FIRST_OF_MARCH, assert_broken};
 use crate::padded::Padded;
-use duty_core::{Minute, Params, Rule};
+use duty_core::{Minute, Params};
 use std::alloc::Global;
 use std::test::Fail;
 
@@ -148,11 +147,7 @@ fn asks_for_four_nights(rt: HostRuntime) -> Result<(), Fail> {
             consecutive,
         };
         assert_eq!(rt; found, Some(wanted), "{nights}");
-        assert_eq!(rt;
-            keeps_au(&padded, first, Rule::Au14dNights),
-            kept,
-            "{nights}"
-        );
+        assert_eq!(rt; keeps_nights(&padded, first), kept, "{nights}");
     }
     Ok(())
 }

@@ -1,6 +1,7 @@
 //! The base of a place: from there driving, duty and elapsed time are counted.
 ghost use Rattle.std.specs.Prelude.{◌≤◌};
 ghost use Rattle.duty_core.specs.declared.limits.TheConstants.{MINUTE_LIMIT};
+ghost use Rattle.duty_core.specs.Base.{IsBase};
 ghost use Rattle.duty_core.specs.Marks.{IsSplitAt};
 ghost use Rattle.rule_readings.specs.BaseFound.{IsBaseFound};
 
@@ -27,7 +28,7 @@ pub(crate) fn base_at(
     i: u32,
 ) -> Option<Base>
     requires early { first ≤ MINUTE_LIMIT }
-    ensures { IsBaseFound full padded.now (IsSplitAt params first marks.now) i result }
+    ensures { IsBaseFound (IsBase full padded.now (IsSplitAt params first marks.now) i) result }
 {
     let last = last_declared(padded, params, first, marks, full, i)?;
     let rest = last.to - last.from;

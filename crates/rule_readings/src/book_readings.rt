@@ -5,68 +5,19 @@ ghost use Rattle.duty_core.specs.declared.limits.TheConstants.{DAY_MINUTES};
 ghost use Rattle.duty_core.specs.Params.{unit_minutes, BeginsUnit, AreGoodParams};
 ghost use Rattle.duty_core.specs.RuleBooks.{rules_of};
 ghost use Rattle.rule_readings.specs.Lost.{AreLostCounts};
-ghost use Rattle.rule_readings.specs.Values.{au_limit, limit_of};
 ghost use Rattle.rule_readings.specs.Readings.{IsScope, IsReadingFound, AreReadings, AreTimedBefore};
 
-use crate::broken_rules::rules_of_book;
-use crate::ca::ca_limit_of;
+use crate::book::rules_of_book;
 use crate::declared::minute_at;
 use crate::lost::LostMinutes;
+use crate::measure::asked_of;
 use crate::padded::Padded;
 use crate::reading::{Reading, ReadingList};
 use crate::scope::{Scope, scope_of};
-use crate::us::us_limit_of;
 use crate::values::best_of;
-use duty_core::{
-    AU_5H30_DUTY, AU_7D_DUTY, AU_7D_REST, AU_8H_DUTY, AU_11H_DUTY, AU_14D_DUTY, AU_14D_NIGHTS,
-    AU_24H_DUTY, AU_24H_REST, CA_BOTH_LOST_LIMIT, CA_LOST_LIMIT, CA_PAIR_LEAST, Marks, Minute,
-    NoMemory, Params, Rule, US_PAIR_LEAST, unit_of,
-};
+use duty_core::{Marks, Minute, NoMemory, Params, Rule};
 use std::alloc::Global;
 use timeline::Timeline;
-
-/// The limit of a rule of Australia: in minutes, and of the nights in nights.
-fn au_limit_of(rule: Rule) -> u32
-    ensures { result ≡ au_limit rule }
-{
-    let quarters = match rule {
-        Rule::Au5h30 => AU_5H30_DUTY,
-        Rule::Au8h => AU_8H_DUTY,
-        Rule::Au11h => AU_11H_DUTY,
-        Rule::Au24h => AU_24H_DUTY,
-        Rule::Au24hRest => AU_24H_REST,
-        Rule::Au7d => AU_7D_DUTY,
-        Rule::Au7dRest => AU_7D_REST,
-        Rule::Au14d => AU_14D_DUTY,
-        Rule::Au14dNights => return AU_14D_NIGHTS,
-        _ => 0,
-    };
-    unit_of(Params::Hvnl {}) * quarters
-}
-
-/// The limit of the rule, as its reading tells it.
-fn limit_of(params: Params, rule: Rule) -> u32
-    ensures { result ≡ limit_of params rule }
-{
-    match rule {
-        Rule::UsPair => US_PAIR_LEAST,
-        Rule::CaPair => CA_PAIR_LEAST,
-        Rule::CaOff10 => CA_LOST_LIMIT,
-        Rule::CaDefer => CA_BOTH_LOST_LIMIT,
-        Rule::UsWindow14 | Rule::UsDrive11 | Rule::UsBreak8 | Rule::UsWeek => {
-            us_limit_of(params, rule)
-        }
-        Rule::CaDay13
-        | Rule::CaDay14
-        | Rule::CaShift13
-        | Rule::CaShift14
-        | Rule::CaElapsed16
-        | Rule::Ca24in14
-        | Rule::CaCycle
-        | Rule::Ca70without24 => ca_limit_of(params, rule),
-        _ => au_limit_of(rule),
-    }
-}
 
 /// The reading of the rule. `None` where it looks at nothing.
 fn reading_of(
@@ -86,10 +37,11 @@ fn reading_of(
     ensures { IsReadingFound scope.now padded.now marks.now rule result }
 {
     let _places = padded.len();
-    let best = best_of(padded, lost, scope, marks, rule)?;
+    let asked = asked_of(scope.params, rule);
+    let best = best_of(padded, lost, scope, marks, asked.measure)?;
     Some(Reading {
         used: best.used,
-        limit: limit_of(scope.params, rule),
+        limit: asked.limit,
         at: minute_at(scope.params, scope.first, best.at),
     })
 }

@@ -1,87 +1,106 @@
 //! Which rules of a book a history breaks.
-ghost use Rattle.std.specs.Prelude.{◌≡◌, ◌+◌, ◌*◌, ◌≤◌, ◌↔◌, Contains, IsTrue, IfOk, length};
+ghost use Rattle.std.specs.Prelude.{◌≡◌, ◌+◌, ◌*◌, ◌≤◌, ◌↔◌, Contains, IsTrue, IfSome, IfOk, length};
 ghost use Rattle.civil_minutes.specs.declared.century.TheConstants.{MINUTES_OF_CENTURY};
-ghost use Rattle.duty_core.specs.declared.limits.TheConstants.{DAY_MINUTES};
+ghost use Rattle.duty_core.specs.declared.limits.TheConstants.{DAY_MINUTES, MINUTE_LIMIT};
 ghost use Rattle.duty_core.specs.Params.{unit_minutes, BeginsUnit, AreGoodParams};
 ghost use Rattle.duty_core.specs.RuleBooks.{rules_of, Keeps, KeepsPadded};
+ghost use Rattle.rule_readings.specs.Asked.{asked_of};
 ghost use Rattle.rule_readings.specs.CaHistory.{IsPadded};
 ghost use Rattle.rule_readings.specs.Broken.{AreBroken};
+ghost use Rattle.rule_readings.specs.Lost.{AreLostCounts};
+ghost use Rattle.rule_readings.specs.Values.{IsAskable, IsAskedAtPlaces, MeetsAsked};
 
-use crate::au::keeps_au;
-use crate::ca::keeps_ca;
+use crate::au_nights::keeps_nights;
+use crate::best::Order;
+use crate::book::rules_of_book;
+use crate::ca_pair::keeps_pair;
+use crate::deferral::{keeps_defer, keeps_off10};
+use crate::lost::LostMinutes;
+use crate::measure::{Asked, asked_of, order_of};
 use crate::padded::Padded;
 use crate::rules::Rules;
-use crate::us::keeps_us;
+use crate::scope::{Scope, Span};
+use crate::us_pair::keeps_us_pair;
+use crate::values::value_at;
 use duty_core::{Marks, Minute, NoMemory, Params, Rule};
 use std::alloc::Global;
 use timeline::Timeline;
 
-static US_RULES: [Rule; 5] = [
-    Rule::UsWindow14,
-    Rule::UsDrive11,
-    Rule::UsBreak8,
-    Rule::UsWeek,
-    Rule::UsPair,
-];
-
-static CA_RULES: [Rule; 11] = [
-    Rule::CaDay13,
-    Rule::CaDay14,
-    Rule::CaShift13,
-    Rule::CaShift14,
-    Rule::CaElapsed16,
-    Rule::CaOff10,
-    Rule::CaDefer,
-    Rule::CaPair,
-    Rule::Ca24in14,
-    Rule::CaCycle,
-    Rule::Ca70without24,
-];
-
-static AU_RULES: [Rule; 9] = [
-    Rule::Au5h30,
-    Rule::Au8h,
-    Rule::Au11h,
-    Rule::Au24h,
-    Rule::Au24hRest,
-    Rule::Au7d,
-    Rule::Au7dRest,
-    Rule::Au14d,
-    Rule::Au14dNights,
-];
-
-/// The rules of the book, in its order.
-pub(crate) fn rules_of_book(params: Params) -> &'static [Rule]
-    ensures { result.now ≡ rules_of params }
+/// Whether a value, if there is one, is within the limit.
+fn is_within(asked: Asked, value: Option<u32>) -> bool
+    ensures { IsTrue result ↔ IfSome value (MeetsAsked asked) }
 {
-    match params {
-        Params::UsProperty { .. } => &US_RULES,
-        Params::Canada { .. } => &CA_RULES,
-        Params::Hvnl {} => &AU_RULES,
+    match value {
+        Some(n) => match order_of(asked.measure) {
+            Order::Greatest => n <= asked.limit,
+            Order::Least => asked.limit <= n,
+        },
+        None => true,
     }
 }
 
-/// Whether the history keeps the rule of the book with these marks. `NoMemory` if there is none for
-/// what is counted.
-fn keeps(
-    alloc: Global,
+/// Whether each value that the rule looks at is within its limit.
+fn keeps_at_places(
     padded: &Padded,
+    lost: &LostMinutes,
     params: Params,
     first: Minute,
     marks: &Marks,
     rule: Rule,
-) -> Result<bool, NoMemory>
+) -> bool
+    requires early { first ≤ MINUTE_LIMIT }
+    requires padded { IsPadded params padded.now }
+    requires counts { AreLostCounts padded.now lost.now }
+    requires askable { IsAskable params first (asked_of params rule).measure }
+    requires places { IsAskedAtPlaces rule }
+    ensures { IsTrue result ↔ KeepsPadded params first padded.now marks.now rule }
+{
+    let asked = asked_of(params, rule);
+    let all = Span {
+        from: 0,
+        to: padded.len(),
+    };
+    let scope = Scope {
+        params,
+        first,
+        history: all,
+        planned: all,
+    };
+    for i in 0..padded.len() {
+        if !is_within(
+            asked,
+            value_at(padded, lost, &scope, marks, asked.measure, i),
+        ) {
+            return false;
+        }
+    }
+    true
+}
+
+/// Whether the history keeps the rule of the book with these marks.
+fn keeps(
+    padded: &Padded,
+    lost: &LostMinutes,
+    params: Params,
+    first: Minute,
+    marks: &Marks,
+    rule: Rule,
+) -> bool
     requires good { AreGoodParams params }
     requires begins { BeginsUnit params first }
-    requires early { first ≤ MINUTES_OF_CENTURY }
+    requires early { first ≤ MINUTE_LIMIT }
     requires padded { IsPadded params padded.now }
+    requires counts { AreLostCounts padded.now lost.now }
     requires of_book { Contains (rules_of params) rule }
-    ensures { IfOk result (λ kept. IsTrue kept ↔ KeepsPadded params first padded.now marks.now rule) }
+    ensures { IsTrue result ↔ KeepsPadded params first padded.now marks.now rule }
 {
-    match params {
-        Params::UsProperty { .. } => Ok(keeps_us(padded, params, first, marks, rule)),
-        Params::Canada { .. } => keeps_ca(alloc, padded, params, first, marks, rule),
-        Params::Hvnl {} => Ok(keeps_au(padded, first, rule)),
+    match rule {
+        Rule::UsPair => keeps_us_pair(padded, params, first, marks),
+        Rule::CaOff10 => keeps_off10(padded, lost, params, first, marks),
+        Rule::CaDefer => keeps_defer(padded, lost, params, first, marks),
+        Rule::CaPair => keeps_pair(padded, params, first, marks),
+        Rule::Au14dNights => keeps_nights(padded, first),
+        _ => keeps_at_places(padded, lost, params, first, marks, rule),
     }
 }
 
@@ -101,9 +120,10 @@ pub fn broken(
     ensures { IfOk result (λ rules. AreBroken (Keeps params first history.now marks.now) (rules_of params) rules) }
 {
     let padded = Padded::new(alloc, params, history)?;
+    let lost = LostMinutes::new(alloc, &padded)?;
     let mut rules = Rules::new(alloc);
     for rule in rules_of_book(params) {
-        if !keeps(alloc, &padded, params, first, marks, *rule)? {
+        if !keeps(&padded, &lost, params, first, marks, *rule) {
             rules.push(*rule)?;
         }
     }

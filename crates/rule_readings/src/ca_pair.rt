@@ -2,14 +2,13 @@
 ghost use Rattle.std.specs.Prelude.{◌≡◌, ℕ, ◌≤◌, ◌↔◌, Contains, IsTrue};
 ghost use Rattle.duty_core.specs.declared.mark.Mark.TheVariants.{SplitRest};
 ghost use Rattle.duty_core.specs.declared.limits.TheConstants.{MINUTE_LIMIT};
-ghost use Rattle.duty_core.specs.CaShift.{IsSplitWay, IsCaSplit, MeetsCaPair};
-ghost use Rattle.rule_readings.specs.CaSplits.{MeetsSplitMark};
+ghost use Rattle.duty_core.specs.CaShift.{IsCaSplit, MeetsCaPair};
+ghost use Rattle.rule_readings.specs.Splits.{MeetsSplitMark};
 
+use crate::book::is_split_way;
 use crate::padded::Padded;
 use crate::pairs::{PairBerth, PairTerms, are_paired, is_berth, split_run};
-use duty_core::{
-    CA_FULL_REST, CA_PAIR_LEAST, CA_SPLIT_LEAST, Mark, Marks, Minute, Params, RestWay,
-};
+use duty_core::{CA_FULL_REST, CA_PAIR_LEAST, CA_SPLIT_LEAST, Mark, Marks, Minute, Params};
 
 /// What Canada asks of a pair: ten hours together, and the second rest all in the berth.
 const CA_PAIR: PairTerms = PairTerms {
@@ -17,19 +16,6 @@ const CA_PAIR: PairTerms = PairTerms {
     least: CA_PAIR_LEAST,
     berth: PairBerth::AllOfSecond,
 };
-
-/// Whether the tour rests by the way `split`.
-fn is_split_way(params: Params) -> bool
-    ensures { IsTrue result ↔ IsSplitWay params }
-{
-    match params {
-        Params::Canada {
-            way: RestWay::Split,
-            ..
-        } => true,
-        Params::Canada { .. } | Params::UsProperty { .. } | Params::Hvnl {} => false,
-    }
-}
 
 /// Whether a mark of the minute `at` names a run that may be split and is all in the berth, under
 /// the way `split`.

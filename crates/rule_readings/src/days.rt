@@ -5,10 +5,11 @@ ghost use Rattle.duty_core.specs.declared.activity.Activity.TheVariants.{Drive};
 ghost use Rattle.duty_core.specs.declared.limits.TheConstants.{MINUTE_LIMIT};
 ghost use Rattle.duty_core.specs.History.{unit_at};
 ghost use Rattle.duty_core.specs.Counting.{IsDaysBase};
-ghost use Rattle.duty_core.specs.Day.{day_start, day_number, IsFirstOfDays};
+ghost use Rattle.duty_core.specs.Day.{day_number, IsFirstOfDays};
 ghost use Rattle.rule_readings.specs.declared.padded.TheConstants.{LONGEST_PADDED};
 ghost use Rattle.rule_readings.specs.EndFound.{IsEndFound};
 
+use crate::book::start_of_day;
 use crate::padded::Padded;
 use duty_core::{Activity, DAY_MINUTES, Minute, Params, unit_of};
 
@@ -35,18 +36,6 @@ pub(crate) fn last_end(padded: &Padded, least: u32, i: u32) -> Option<u32>
         }
     }
     None
-}
-
-/// How many minutes after midnight a day of the book begins.
-pub(crate) fn start_of_day(params: Params) -> u32
-    ensures { result ≡ day_start params }
-{
-    match params {
-        Params::UsProperty { day_start, .. } | Params::Canada { day_start, .. } => {
-            u32::from(day_start)
-        }
-        Params::Hvnl {} => 0,
-    }
 }
 
 /// The first place of the last `days` days, the day of place `i` counted.

@@ -4,19 +4,20 @@ ghost use Rattle.std.specs.Prelude.{◌≡◌, ℕ, ℤ, ◌+◌, ◌^◌, ◌<�
 ghost use Rattle.duty_core.specs.declared.mark.Mark.TheVariants.{DeferDay};
 ghost use Rattle.duty_core.specs.Day.{day_number, IsNumberOfDay};
 ghost use Rattle.duty_core.specs.Marks.{IsDeferred};
-ghost use Rattle.duty_core.specs.Deferral.{IsInDeferral, MeetsCaOff10, HasRestIn, IsDeferral, IsDeferWay, IsCaDeferral, MeetsCaDefer};
+ghost use Rattle.duty_core.specs.Deferral.{IsInDeferral, MeetsCaOff10, HasRestIn, IsDeferral, IsCaDeferral, MeetsCaDefer};
 ghost use Rattle.rule_readings.specs.CaHistory.{IsByMinutes};
 ghost use Rattle.rule_readings.specs.declared.ca_day.TheConstants.{DAY_LIMIT};
 ghost use Rattle.rule_readings.specs.declared.deferral.TheConstants.{DAY_ZERO};
 ghost use Rattle.rule_readings.specs.Lost.{AreLostCounts};
 ghost use Rattle.rule_readings.specs.Deferring.{IsOpenRest, HasRunIn, DefersDay, MeetsMark};
 
+use crate::book::is_defer_way;
 use crate::ca_day::{DAY_LIMIT, day_begin, day_of};
 use crate::lost::LostMinutes;
 use crate::padded::{Padded, RestRun};
 use duty_core::{
     CA_BOTH_LOST_LIMIT, CA_DEFERRED_LOST_LIMIT, CA_FULL_REST, CA_LOST_LIMIT, Day, Mark, Marks,
-    Minute, PADDING_DAYS, Params, RestWay, is_duty,
+    Minute, PADDING_DAYS, Params, is_duty,
 };
 
 /// The number of day 0: the days of the padding and one more.
@@ -186,19 +187,6 @@ pub(crate) fn is_deferral(
     }
     let least = CA_FULL_REST + (own - CA_LOST_LIMIT);
     has_rest_in(padded, params, first, least, number + 1)
-}
-
-/// Whether the tour rests by the way `defer`.
-fn is_defer_way(params: Params) -> bool
-    ensures { IsTrue result ↔ IsDeferWay params }
-{
-    match params {
-        Params::Canada {
-            way: RestWay::Defer,
-            ..
-        } => true,
-        Params::Canada { .. } | Params::UsProperty { .. } | Params::Hvnl {} => false,
-    }
 }
 
 /// Whether a mark of this day stands for a deferral under the way `defer`, and the next day has no

@@ -10,8 +10,8 @@ ghost use Rattle.duty_core.specs.Stretch.{HoldsRest};
 ghost use Rattle.duty_core.specs.Counting.{IsLastEnd};
 ghost use Rattle.duty_core.specs.RuleBooks.{Keeps};
 ghost use Rattle.rule_readings.specs.declared.reading.Reading.{Reading};
-ghost use Rattle.rule_readings.specs.declared.ca_cycle.TheConstants.{CA_SINCE_DAY_OFF_LIMIT};
-ghost use Rattle.rule_readings.specs.Values.{order_of};
+ghost use Rattle.rule_readings.specs.declared.measure.TheConstants.{CA_SINCE_DAY_OFF_LIMIT};
+ghost use Rattle.rule_readings.specs.Asked.{asked_of, order_of};
 ghost use Rattle.rule_readings.specs.Readings.{scope_of, IsReading, IsWithin, AreReadings};
 
 use duty_core::Params;
@@ -29,7 +29,7 @@ pub fn readings_are_one(params: Params)
 pub fn kept_rules_read_within(params: Params)
     ensures { (first from : ℕ) (h : List Activity) (marks : List Mark) (rule : Rule) (reading : Reading) →
         Keeps params first h marks rule → IsReading (scope_of params first h from) (padded params h) marks rule reading →
-        IsWithin (order_of rule) reading.limit reading.used }
+        IsWithin (order_of (asked_of params rule).measure) reading.limit reading.used }
 {
     let _ = params;
 }

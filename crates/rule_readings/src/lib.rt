@@ -1,7 +1,6 @@
 //! Which rules of a book a history keeps with its marks, and what each rule counts at a place.
 #![tactic(auto)]
 
-mod au;
 mod au_nights;
 mod au_periods;
 #[cfg(test)]
@@ -9,24 +8,24 @@ mod au_tests;
 mod au_values;
 mod base;
 mod best;
+mod book;
 mod book_readings;
+mod breaks;
 mod broken_rules;
-mod ca;
-mod ca_cycle;
 mod ca_day;
 mod ca_pair;
-mod ca_shift;
 #[cfg(test)]
 mod ca_tests;
 #[cfg(test)]
 mod cases;
-mod count;
 mod days;
 mod declared;
 mod deferral;
+mod driving;
 mod laws;
 mod losses;
 mod lost;
+mod measure;
 mod padded;
 mod pair_sums;
 mod pairs;
@@ -37,7 +36,7 @@ mod rules;
 mod scope;
 #[cfg(test)]
 mod tests;
-mod us;
+mod us_pair;
 mod values;
 
 pub use book_readings::readings;

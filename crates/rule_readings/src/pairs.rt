@@ -2,7 +2,6 @@
 ghost use Rattle.std.specs.Prelude.{◌≡◌, ℕ, ◌≤◌, ◌↔◌, IsTrue, length};
 ghost use Rattle.duty_core.specs.declared.activity.Activity.TheVariants.{Berth};
 ghost use Rattle.duty_core.specs.declared.limits.TheConstants.{MINUTE_LIMIT};
-ghost use Rattle.duty_core.specs.Params.{has_berth};
 ghost use Rattle.duty_core.specs.Stretch.{HoldsBerth, IsBerth};
 ghost use Rattle.duty_core.specs.Marks.{IsMinuteOf, IsSplitAt};
 ghost use Rattle.duty_core.specs.RestRun.{IsRun};
@@ -10,6 +9,7 @@ ghost use Rattle.duty_core.specs.DeclaredRest.{ArePairedAt};
 ghost use Rattle.rule_readings.specs.declared.padded.TheConstants.{LONGEST_PADDED};
 ghost use Rattle.rule_readings.specs.Pairs.{IsPair, IsPairedRun, IsSplitFound};
 
+use crate::book::berth_of;
 use crate::declared::{is_declared, last_declared, minute_of};
 use crate::padded::{Padded, RestRun};
 use duty_core::{Activity, Marks, Minute, Params};
@@ -131,16 +131,6 @@ pub(crate) fn are_paired(
         }
     }
     true
-}
-
-/// Whether the truck has a sleeper berth.
-fn berth_of(params: Params) -> bool
-    ensures { result ≡ has_berth params }
-{
-    match params {
-        Params::UsProperty { berth, .. } | Params::Canada { berth, .. } => berth,
-        Params::Hvnl {} => false,
-    }
 }
 
 /// Whether the minute `at` is that of the place.

@@ -4,7 +4,7 @@ use Rattle.duty_core.specs.declared.rule.Rule.{Rule}
 use Rattle.rule_readings.specs.Broken.{AreBroken}
 
 -- a rule of a list is its first, or one of the others
-contains_cases : (first rule : Rule) (rules : List Rule) → Contains (first ∷ rules) rule → (first ≡ rule) ⊎ Contains rules rule
+pub contains_cases : (first rule : Rule) (rules : List Rule) → Contains (first ∷ rules) rule → (first ≡ rule) ⊎ Contains rules rule
 contains_cases first rule rules (zero, l, e) = inl e
 contains_cases first rule rules (suc k, l, e) = inr (k, omega arith, e)
 

@@ -1,7 +1,7 @@
 -- The marks so far may split their rests.
 use Rattle.std.proofs.Common.{ℕ, ◌<◌, get_or}
 use Rattle.duty_core.specs.declared.mark.Mark.{Mark}
-use Rattle.rule_readings.specs.CaSplits.{MeetsSplitMark}
+use Rattle.rule_readings.specs.Splits.{MeetsSplitMark}
 use Rattle.rule_readings.proofs.ca_pair.meets_split_marks.Given as goal
 
 abbrev pub invariant-loop-mark : goal.invariant-loop-mark

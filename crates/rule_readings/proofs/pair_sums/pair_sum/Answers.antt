@@ -1,10 +1,8 @@
-use Rattle.std.proofs.Common.{◌≡◌, ℕ, sym, subst, arith, inr}
+use Rattle.std.proofs.Common.{sym, subst, arith}
 use Rattle.duty_core.specs.Marks.{IsSplitAt}
-use Rattle.duty_core.specs.DeclaredRest.{IsSplitRest}
 use Rattle.rule_readings.specs.Count.{IsCount}
-use Rattle.rule_readings.specs.Found.{IsFirstDeclared}
 use Rattle.rule_readings.specs.Values.{IsPairSum}
-use Rattle.rule_readings.proofs.PairSums.{first_is_split, next_is_first, short_is_split, pair_of}
+use Rattle.rule_readings.proofs.PairSums.{first_is_split, next_is_first, pair_of}
 use Rattle.rule_readings.proofs.pair_sums.pair_sum.Goals as goal
 use Rattle.rule_readings.proofs.pair_sums.pair_sum.Goals.{then-one-i-via-then-one-i, then-one-i-via-else-one-i+then-one-full}
 

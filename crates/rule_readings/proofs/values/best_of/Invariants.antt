@@ -1,8 +1,8 @@
 -- the best value of the places so far
 use Rattle.rule_readings.specs.Best.{IsBestFound}
-use Rattle.rule_readings.specs.Values.{IsValue}
+use Rattle.rule_readings.specs.Values.{IsMeasured}
 use Rattle.rule_readings.proofs.BestLoop.{IsBelow}
 use Rattle.rule_readings.proofs.values.best_of.Given as goal
 
 abbrev pub invariant-loop-i : goal.invariant-loop-i
-invariant-loop-i l = IsBestFound l.order (IsBelow (IsValue l.scope l.padded l.marks l.rule) l.i) l.best
+invariant-loop-i l = IsBestFound l.order (IsBelow (IsMeasured l.measure l.scope l.padded l.marks) l.i) l.best

@@ -1,8 +1,0 @@
-use Rattle.rule_readings.proofs.UsPlaces.{NoneBehind}
-use Rattle.rule_readings.proofs.us.last_break.Given as goal
-
-abbrev pub invariant-loop-to : goal.invariant-loop-to
-invariant-loop-to l = NoneBehind l.padded l.i l.to
-
-abbrev pub decreases-loop-to : goal.decreases-loop-to
-decreases-loop-to l = l.to

@@ -1,0 +1,96 @@
+//! What rules count at units of driving.
+ghost use Rattle.std.specs.Prelude.{◌≡◌, ◌≤◌, ◌<◌, IfSome, length};
+ghost use Rattle.duty_core.specs.declared.limits.TheConstants.{MINUTE_LIMIT};
+ghost use Rattle.duty_core.specs.Day.{day_number};
+ghost use Rattle.duty_core.specs.Marks.{IsSplitAt};
+ghost use Rattle.rule_readings.specs.BaseFound.{IsBaseFound, whole};
+ghost use Rattle.rule_readings.specs.Count.{IsCount};
+ghost use Rattle.rule_readings.specs.Counts.{HasDays, CountsFrom, amount_of, IsCountAt};
+ghost use Rattle.rule_readings.specs.Values.{IsPlannedCount};
+
+use crate::base::{Base, base_at};
+use crate::breaks::last_break;
+use crate::days::{days_base, first_of_days, is_driving, last_end};
+use crate::measure::{Amount, Since};
+use crate::padded::Padded;
+use crate::scope::{Scope, is_in};
+use duty_core::Marks;
+
+/// A place from which all is counted, if there is one.
+fn whole(from: Option<u32>) -> Option<Base>
+    ensures { result ≡ whole from }
+{
+    match from {
+        Some(base) => Some(Base { base, omitted: 0 }),
+        None => None,
+    }
+}
+
+/// The place from which is counted at place `i`. `None` where there is none.
+fn base_since(padded: &Padded, scope: &Scope, marks: &Marks, since: Since, i: u32) -> Option<Base>
+    requires early { scope.now.first ≤ MINUTE_LIMIT }
+    requires days { HasDays since }
+    requires inside { i < length padded.now }
+    ensures found { IsBaseFound
+        (CountsFrom since (day_number scope.now.params scope.now.first) padded.now
+        (IsSplitAt scope.now.params scope.now.first marks.now) i)
+        result }
+    ensures before { IfSome result (λ at. at.base ≤ i) }
+{
+    let _places = padded.len();
+    let params = scope.params;
+    let first = scope.first;
+    match since {
+        Since::Base { full } => base_at(padded, params, first, marks, full, i),
+        Since::Break => whole(last_break(padded, i)),
+        Since::Day => whole(Some(first_of_days(params, first, 1, i))),
+        Since::Days { days, restart } => {
+            whole(Some(days_base(padded, params, first, days, restart, i)))
+        }
+        Since::Rest { least } => whole(last_end(padded, least, i)),
+    }
+}
+
+/// What is counted from there up to place `i`, in units.
+fn amount_from(padded: &Padded, amount: Amount, from: Base, i: u32) -> u32
+    requires inside { i < length padded.now }
+    requires before { from.base ≤ i }
+    ensures { result ≡ amount_of amount padded.now from.base from.omitted i }
+{
+    let _places = padded.len();
+    match amount {
+        Amount::Driving => padded.driving(from.base, i + 1),
+        Amount::Duty => padded.duty(from.base, i + 1),
+        Amount::Time => (i + 1 - from.base).saturating_sub(from.omitted),
+        Amount::TimeBefore => (i - from.base).saturating_sub(from.omitted),
+    }
+}
+
+/// What is counted at place `i`. `None` where that is no unit of driving of the schedule, and where
+/// there is no place from which is counted.
+pub(crate) fn planned_count(
+    padded: &Padded,
+    scope: &Scope,
+    marks: &Marks,
+    amount: Amount,
+    since: Since,
+    i: u32,
+) -> Option<u32>
+    requires early { scope.now.first ≤ MINUTE_LIMIT }
+    requires days { HasDays since }
+    requires inside { i < length padded.now }
+    ensures { IsCount
+        (IsPlannedCount scope.now.planned
+        (IsCountAt amount since (day_number scope.now.params scope.now.first) padded.now
+        (IsSplitAt scope.now.params scope.now.first marks.now))
+        i)
+        result }
+{
+    if !is_in(scope.planned, i) || !is_driving(padded, i) {
+        return None;
+    }
+    match base_since(padded, scope, marks, since, i) {
+        Some(from) => Some(amount_from(padded, amount, from, i)),
+        None => None,
+    }
+}
