@@ -4,7 +4,9 @@ use Rattle.std.specs.Prelude.{ℤ, pos, negsuc, ◌-ℤ◌, ◌*ℤ◌}
 use Rattle.std.proofs.lemmas.Bool.{cases_lt}
 use Rattle.std.proofs.lemmas.Int.{ints}
 use Rattle.duty_core.specs.declared.activity.Activity.{Activity}
-use Rattle.duty_core.specs.declared.limits.TheConstants.{AU_NIGHT_BEFORE, AU_NIGHT_AFTER, AU_NIGHT_REST, AU_NIGHT_LONG_REST}
+use Rattle.duty_core.specs.declared.limits.TheConstants.{DAY_MINUTES, AU_NIGHT_BEFORE, AU_NIGHT_AFTER, AU_NIGHT_REST, AU_NIGHT_LONG_REST}
+use Rattle.duty_core.specs.declared.params.Params.TheVariants.{Hvnl}
+use Rattle.duty_core.specs.Params.{unit_minutes, day_units}
 use Rattle.duty_core.specs.History.{pad_days}
 use Rattle.duty_core.specs.Stretch.{IsRest}
 use Rattle.duty_core.specs.AuNights.{IsMidnight, HasBreak}
@@ -60,22 +62,22 @@ break_across p m before after b a x =
     )
 
 -- The days that lie before a midnight, where the history begins so many quarters after a midnight. The padding is whole days.
-whole_days : (a k : ℕ) (date : ℤ) → pos a -ℤ pos (k * 1440) ≡ date *ℤ pos 1440 → (days : ℕ) × (a ≡ 1440 * days)
+whole_days : (a k : ℕ) (date : ℤ) → pos a -ℤ pos (k * DAY_MINUTES) ≡ date *ℤ pos DAY_MINUTES → (days : ℕ) × (a ≡ DAY_MINUTES * days)
 whole_days a k (pos n) e = (n + k, omega (arith, ints))
 whole_days a k (negsuc n) e = (k - (n + 1), omega (arith, ints))
 
-pub midnight_days : (first units m : ℕ) → first ≡ 15 * units → IsMidnight first m → (days : ℕ) × (units + m ≡ 96 * days)
+pub midnight_days : (first units m : ℕ) → first ≡ unit_minutes Hvnl * units → IsMidnight first m → (days : ℕ) × (units + m ≡ day_units Hvnl * days)
 midnight_days first units m f h =
-    let e : 15 * (pad_days * 96) ≡ pad_days * 1440 = omega arith in
-    let d = whole_days (first + 15 * m) pad_days h.0 (ap (λ k. pos (first + 15 * m) -ℤ pos k) (sym e) ∙ h.1) in
+    let e : unit_minutes Hvnl * (pad_days * day_units Hvnl) ≡ pad_days * DAY_MINUTES = omega arith in
+    let d = whole_days (first + unit_minutes Hvnl * m) pad_days h.0 (ap (λ k. pos (first + unit_minutes Hvnl * m) -ℤ pos k) (sym e) ∙ h.1) in
     let g = d.1 in
     (d.0, omega arith)
 
-pub days_midnight : (first units m days : ℕ) → first ≡ 15 * units → units + m ≡ 96 * days → IsMidnight first m
+pub days_midnight : (first units m days : ℕ) → first ≡ unit_minutes Hvnl * units → units + m ≡ day_units Hvnl * days → IsMidnight first m
 days_midnight first units m days f h = (pos days -ℤ pos pad_days, omega (arith, ints))
 
 -- midnights lie a day apart
-pub midnights_apart : (first units m k : ℕ) → first ≡ 15 * units → IsMidnight first m → IsMidnight first k → m < k → m + 96 ≤ k
+pub midnights_apart : (first units m k : ℕ) → first ≡ unit_minutes Hvnl * units → IsMidnight first m → IsMidnight first k → m < k → m + day_units Hvnl ≤ k
 midnights_apart first units m k f a b l =
     let d = midnight_days first units m f a in
     let e = midnight_days first units k f b in
@@ -84,25 +86,25 @@ midnights_apart first units m k f a b l =
     omega arith
 
 -- the midnight after one
-pub midnight_after : (first units m : ℕ) → first ≡ 15 * units → IsMidnight first m → IsMidnight first (m + 96)
+pub midnight_after : (first units m : ℕ) → first ≡ unit_minutes Hvnl * units → IsMidnight first m → IsMidnight first (m + day_units Hvnl)
 midnight_after first units m f a =
     let d = midnight_days first units m f a in
     let u = d.1 in
-    days_midnight first units (m + 96) (d.0 + 1) f (omega arith)
+    days_midnight first units (m + day_units Hvnl) (d.0 + 1) f (omega arith)
 
-next_day : (first units start place : ℕ) → first ≡ 15 * units → start ≡ units → (start + place) % 96 ≡ 0 → IsNextMidnight first place place
-next_day first units start place f s e = record { midnight = days_midnight first units place ((start + place) / 96) f (omega arith); after = omega arith; near = omega arith }
+next_day : (first units start place : ℕ) → first ≡ unit_minutes Hvnl * units → start ≡ units → (start + place) % day_units Hvnl ≡ 0 → IsNextMidnight first place place
+next_day first units start place f s e = record { midnight = days_midnight first units place ((start + place) / day_units Hvnl) f (omega arith); after = omega arith; near = omega arith }
 
-later_day : (first units start place since m : ℕ) → first ≡ 15 * units → start ≡ units → since ≡ (start + place) % 96 → 0 < since → m ≡ place + (96 - since) → IsNextMidnight first place m
-later_day first units start place since m f s e l h = record { midnight = days_midnight first units m ((start + place) / 96 + 1) f (omega arith); after = omega arith; near = omega arith }
+later_day : (first units start place since m : ℕ) → first ≡ unit_minutes Hvnl * units → start ≡ units → since ≡ (start + place) % day_units Hvnl → 0 < since → m ≡ place + (day_units Hvnl - since) → IsNextMidnight first place m
+later_day first units start place since m f s e l h = record { midnight = days_midnight first units m ((start + place) / day_units Hvnl + 1) f (omega arith); after = omega arith; near = omega arith }
 
-whole_units : (first units unit : ℕ) → unit ≡ 15 → first ≡ 15 * units → first / unit ≡ units
+whole_units : (first units unit : ℕ) → unit ≡ unit_minutes Hvnl → first ≡ unit_minutes Hvnl * units → first / unit ≡ units
 whole_units first units unit e f = ap (λ k. first / k) e ∙ omega arith
 
 -- a place that is a midnight
-pub next_now : (first units unit day place : ℕ) → unit ≡ 15 → day ≡ 96 → first ≡ 15 * units → (first / unit + place) % day ≡ 0 → IsNextMidnight first place place
+pub next_now : (first units unit day place : ℕ) → unit ≡ unit_minutes Hvnl → day ≡ day_units Hvnl → first ≡ unit_minutes Hvnl * units → (first / unit + place) % day ≡ 0 → IsNextMidnight first place place
 next_now first units unit day place u d f e = next_day first units (first / unit) place f (whole_units first units unit u f) (ap (λ k. (first / unit + place) % k) (sym d) ∙ e)
 
 -- a place that is none, where so many units lie since the last one
-pub next_later : (first units unit day place since m : ℕ) → unit ≡ 15 → day ≡ 96 → first ≡ 15 * units → since ≡ (first / unit + place) % day → (since ≡ 0 → ⊥) → m ≡ place + (day - since) → IsNextMidnight first place m
+pub next_later : (first units unit day place since m : ℕ) → unit ≡ unit_minutes Hvnl → day ≡ day_units Hvnl → first ≡ unit_minutes Hvnl * units → since ≡ (first / unit + place) % day → (since ≡ 0 → ⊥) → m ≡ place + (day - since) → IsNextMidnight first place m
 next_later first units unit day place since m u d f e l h = later_day first units (first / unit) place since m f (whole_units first units unit u f) (e ∙ ap (λ k. (first / unit + place) % k) d) (omega arith) (omega arith)

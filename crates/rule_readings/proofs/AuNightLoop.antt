@@ -8,6 +8,8 @@ use Rattle.std.proofs.lemmas.List.Kept.{AllPairs-from_increasing}
 use Rattle.std.proofs.lemmas.List.Quantifiers.{all_pairs_push}
 use Rattle.duty_core.specs.declared.activity.Activity.{Activity}
 use Rattle.duty_core.specs.declared.limits.TheConstants.{AU_NIGHT_BEFORE, AU_NIGHT_AFTER}
+use Rattle.duty_core.specs.declared.params.Params.TheVariants.{Hvnl}
+use Rattle.duty_core.specs.Params.{unit_minutes, day_units}
 use Rattle.duty_core.specs.AuNights.{IsMidnight, HasBreak, IsBrokenNight}
 use Rattle.rule_readings.specs.AuNightCounts.{IsNextMidnight, AreNights}
 use Rattle.rule_readings.proofs.AuNightLaws.{midnights_apart, midnight_after}
@@ -27,13 +29,13 @@ pub record AreNightsYet (first : ℕ) (p : List Activity) (i n m broken : ℕ) (
   pub count : length nights ≡ broken
   pub each : All (IsBrokenBefore first p i n m) nights
   pub most : (list : List ℕ) → AllPairs (λ a b. a < b) list → All (IsBrokenBefore first p i n m) list → length list ≤ broken
-  pub last_is : last ≡ true → (night : ℕ) × (night + 96 ≡ m) × IsBrokenNight first p i n night
-  pub is_last : (night : ℕ) → night + 96 ≡ m → IsBrokenNight first p i n night → last ≡ true
-  pub two_are : consecutive ≡ true → (night : ℕ) × (night + 96 < m) × IsBrokenNight first p i n night × IsBrokenNight first p i n (night + 96)
-  pub are_two : (night : ℕ) → night + 96 < m → IsBrokenNight first p i n night → IsBrokenNight first p i n (night + 96) → consecutive ≡ true
+  pub last_is : last ≡ true → (night : ℕ) × (night + day_units Hvnl ≡ m) × IsBrokenNight first p i n night
+  pub is_last : (night : ℕ) → night + day_units Hvnl ≡ m → IsBrokenNight first p i n night → last ≡ true
+  pub two_are : consecutive ≡ true → (night : ℕ) × (night + day_units Hvnl < m) × IsBrokenNight first p i n night × IsBrokenNight first p i n (night + day_units Hvnl)
+  pub are_two : (night : ℕ) → night + day_units Hvnl < m → IsBrokenNight first p i n night → IsBrokenNight first p i n (night + day_units Hvnl) → consecutive ≡ true
 
 -- no night of the period lies before the first midnight that may
-none_before : (first units : ℕ) (p : List Activity) (i n m night : ℕ) → first ≡ 15 * units → IsNextMidnight first (i + AU_NIGHT_BEFORE) m → IsBrokenNight first p i n night → night < m → ⊥
+none_before : (first units : ℕ) (p : List Activity) (i n m night : ℕ) → first ≡ unit_minutes Hvnl * units → IsNextMidnight first (i + AU_NIGHT_BEFORE) m → IsBrokenNight first p i n night → night < m → ⊥
 none_before first units p i n m night f h b l =
     let a = midnights_apart first units night m f b.0.midnight h.midnight l in
     let c = b.0.begins in
@@ -44,7 +46,7 @@ no_list : (P : ℕ → Type 0) (list : List ℕ) → ((k : ℕ) → P k → ⊥)
 no_list P [] h all = omega arith
 no_list P (x ∷ xs) h all = absurd (h x (all 0 0 (omega arith)))
 
-pub nights_none : (first units : ℕ) (p : List Activity) (i n m : ℕ) → first ≡ 15 * units → IsNextMidnight first (i + AU_NIGHT_BEFORE) m → AreNightsYet first p i n m 0 false false
+pub nights_none : (first units : ℕ) (p : List Activity) (i n m : ℕ) → first ≡ unit_minutes Hvnl * units → IsNextMidnight first (i + AU_NIGHT_BEFORE) m → AreNightsYet first p i n m 0 false false
 nights_none first units p i n m f h = record {
   midnight = h.midnight;
   after = h.after;
@@ -61,7 +63,7 @@ nights_none first units p i n m f h = record {
 }
 
 -- a night before the midnight after m is m or lies before it
-night_cases : (first units : ℕ) (p : List Activity) (i n m night : ℕ) → first ≡ 15 * units → IsMidnight first m → IsBrokenNight first p i n night → night < m + 96 → (night < m) ⊎ (night ≡ m)
+night_cases : (first units : ℕ) (p : List Activity) (i n m night : ℕ) → first ≡ unit_minutes Hvnl * units → IsMidnight first m → IsBrokenNight first p i n night → night < m + day_units Hvnl → (night < m) ⊎ (night ≡ m)
 night_cases first units p i n m night f h b l = elim (cases_lt night m) [
   | inl c ↦ inl c
   | inr c ↦ elim (cases_lt m night) [
@@ -71,7 +73,7 @@ night_cases first units p i n m night f h b l = elim (cases_lt night m) [
 ]
 
 -- all but the last of a list whose nights lie before the midnight after m lie before m
-front_before : (first units : ℕ) (p : List Activity) (i n m : ℕ) (list : List ℕ) → first ≡ 15 * units → IsMidnight first m → AllPairs (λ a b. a < b) list → All (IsBrokenBefore first p i n (m + 96)) list →
+front_before : (first units : ℕ) (p : List Activity) (i n m : ℕ) (list : List ℕ) → first ≡ unit_minutes Hvnl * units → IsMidnight first m → AllPairs (λ a b. a < b) list → All (IsBrokenBefore first p i n (m + day_units Hvnl)) list →
     (k d : ℕ) → k + 1 < length list → IsBrokenBefore first p i n m (get_or list k d)
 front_before first units p i n m list f h apart all k d l =
     let a = all k d (omega arith) in
@@ -86,9 +88,9 @@ front_before first units p i n m list f h apart all k d l =
       ];
     }
 
-most_with : (first units : ℕ) (p : List Activity) (i n m broken : ℕ) → first ≡ 15 * units → IsMidnight first m →
+most_with : (first units : ℕ) (p : List Activity) (i n m broken : ℕ) → first ≡ unit_minutes Hvnl * units → IsMidnight first m →
     ((list : List ℕ) → AllPairs (λ a b. a < b) list → All (IsBrokenBefore first p i n m) list → length list ≤ broken) →
-    (list : List ℕ) → AllPairs (λ a b. a < b) list → All (IsBrokenBefore first p i n (m + 96)) list → length list ≤ broken + 1
+    (list : List ℕ) → AllPairs (λ a b. a < b) list → All (IsBrokenBefore first p i n (m + day_units Hvnl)) list → length list ≤ broken + 1
 most_with first units p i n m broken f h most list apart all =
     let size : length (take (length list - 1) list) ≡ length list - 1 = length-take-le (length list - 1) list (omega arith) in
     let front = most (take (length list - 1) list)
@@ -96,9 +98,9 @@ most_with first units p i n m broken f h most list apart all =
     (λ k d l. subst (IsBrokenBefore first p i n m) (sym (get_or-take (length list - 1) list k d (omega arith))) (front_before first units p i n m list f h apart all k d (omega arith))) in
     omega arith
 
-most_without : (first units : ℕ) (p : List Activity) (i n m broken : ℕ) → first ≡ 15 * units → IsMidnight first m → (HasBreak p m → ⊥) →
+most_without : (first units : ℕ) (p : List Activity) (i n m broken : ℕ) → first ≡ unit_minutes Hvnl * units → IsMidnight first m → (HasBreak p m → ⊥) →
     ((list : List ℕ) → AllPairs (λ a b. a < b) list → All (IsBrokenBefore first p i n m) list → length list ≤ broken) →
-    (list : List ℕ) → AllPairs (λ a b. a < b) list → All (IsBrokenBefore first p i n (m + 96)) list → length list ≤ broken
+    (list : List ℕ) → AllPairs (λ a b. a < b) list → All (IsBrokenBefore first p i n (m + day_units Hvnl)) list → length list ≤ broken
 most_without first units p i n m broken f h none most list apart all = most list apart (λ k d l.
     (let a = all k d l in
     record {
@@ -109,13 +111,13 @@ most_without first units p i n m broken f h none most list apart all = most list
       ];
     }))
 
-longer : (first : ℕ) (p : List Activity) (i n m : ℕ) (list : List ℕ) → All (IsBrokenBefore first p i n m) list → All (IsBrokenBefore first p i n (m + 96)) list
+longer : (first : ℕ) (p : List Activity) (i n m : ℕ) (list : List ℕ) → All (IsBrokenBefore first p i n m) list → All (IsBrokenBefore first p i n (m + day_units Hvnl)) list
 longer first p i n m list all k d l = let a = all k d l in let b = a.before in record { broken = a.broken; before = omega arith }
 
 -- one more night, which has a break
-pub nights_with : (first units : ℕ) (p : List Activity) (i n m broken now : ℕ) (consecutive last then : Bool) → first ≡ 15 * units → m + AU_NIGHT_AFTER ≤ i + n → HasBreak p m →
+pub nights_with : (first units : ℕ) (p : List Activity) (i n m broken now : ℕ) (consecutive last then : Bool) → first ≡ unit_minutes Hvnl * units → m + AU_NIGHT_AFTER ≤ i + n → HasBreak p m →
     now ≡ broken + 1 → then ≡ (consecutive || last) →
-    AreNightsYet first p i n m broken consecutive last → AreNightsYet first p i n (m + 96) now then true
+    AreNightsYet first p i n m broken consecutive last → AreNightsYet first p i n (m + day_units Hvnl) now then true
 nights_with first units p i n m broken now consecutive last then f e b g t y =
     let h = y.midnight in
     let after = y.after in
@@ -129,7 +131,7 @@ nights_with first units p i n m broken now consecutive last then f e b g t y =
       nights = y.nights ++ m ∷ [];
       apart = all_pairs_push (λ a b. a < b) y.nights m y.apart (λ k d l. (y.each k d l).before);
       count = omega (arith, length-append y.nights (m ∷ []));
-      each = All-push (IsBrokenBefore first p i n (m + 96)) y.nights m (longer first p i n m y.nights y.each) (record { broken = this; before = omega arith });
+      each = All-push (IsBrokenBefore first p i n (m + day_units Hvnl)) y.nights m (longer first p i n m y.nights y.each) (record { broken = this; before = omega arith });
       most = λ list a c. (let w = most_with first units p i n m broken f h y.most list a c in omega arith);
       last_is = λ z. (m, refl, this);
       is_last = λ night z w. refl;
@@ -137,15 +139,15 @@ nights_with first units p i n m broken now consecutive last then f e b g t y =
         | inl c ↦ (let d = y.two_are c in let l = d.1 in (d.0, omega arith, d.2, d.3))
         | inr c ↦ (let d = y.last_is c in (d.0, omega (arith, d.1), d.2, subst (IsBrokenNight first p i n) (sym d.1) this))
       ];
-      are_two = λ night l u v. t ∙ elim (night_cases first units p i n m (night + 96) f h v l) [
+      are_two = λ night l u v. t ∙ elim (night_cases first units p i n m (night + day_units Hvnl) f h v l) [
         | inl c ↦ or_left consecutive last (y.are_two night c u v)
         | inr c ↦ or_right consecutive last (y.is_last night c u)
       ];
     }
 
 -- one more night, which has none
-pub nights_without : (first units : ℕ) (p : List Activity) (i n m broken : ℕ) (consecutive last : Bool) → first ≡ 15 * units → (HasBreak p m → ⊥) →
-    AreNightsYet first p i n m broken consecutive last → AreNightsYet first p i n (m + 96) broken consecutive false
+pub nights_without : (first units : ℕ) (p : List Activity) (i n m broken : ℕ) (consecutive last : Bool) → first ≡ unit_minutes Hvnl * units → (HasBreak p m → ⊥) →
+    AreNightsYet first p i n m broken consecutive last → AreNightsYet first p i n (m + day_units Hvnl) broken consecutive false
 nights_without first units p i n m broken consecutive last f none y =
     let h = y.midnight in
     let after = y.after in
@@ -162,15 +164,15 @@ nights_without first units p i n m broken consecutive last f none y =
       last_is = λ z. absurd (cc);
       is_last = λ night z w. absurd (none (let q : night ≡ m = omega arith in subst (HasBreak p) q w.1));
       two_are = λ z. (let d = y.two_are z in let l = d.1 in (d.0, omega arith, d.2, d.3));
-      are_two = λ night l u v. elim (night_cases first units p i n m (night + 96) f h v l) [
+      are_two = λ night l u v. elim (night_cases first units p i n m (night + day_units Hvnl) f h v l) [
         | inl c ↦ y.are_two night c u v
         | inr c ↦ absurd (none (subst (HasBreak p) c v.1))
       ];
     }
 
 -- the same, as the loop has it
-pub moved : (first : ℕ) (p : List Activity) (i n m day broken : ℕ) (consecutive last now : Bool) → day ≡ 96 → now ≡ last → AreNightsYet first p i n (m + 96) broken consecutive last → AreNightsYet first p i n (m + day) broken consecutive now
-moved first p i n m day broken consecutive last now d e y = subst (λ k. AreNightsYet first p i n (m + k) broken consecutive now) (sym d) (subst (λ b. AreNightsYet first p i n (m + 96) broken consecutive b) (sym e) y)
+pub moved : (first : ℕ) (p : List Activity) (i n m day broken : ℕ) (consecutive last now : Bool) → day ≡ day_units Hvnl → now ≡ last → AreNightsYet first p i n (m + day_units Hvnl) broken consecutive last → AreNightsYet first p i n (m + day) broken consecutive now
+moved first p i n m day broken consecutive last now d e y = subst (λ k. AreNightsYet first p i n (m + k) broken consecutive now) (sym d) (subst (λ b. AreNightsYet first p i n (m + day_units Hvnl) broken consecutive b) (sym e) y)
 
 -- a night of the period lies before a midnight that no longer does
 ends_before : (first : ℕ) (p : List Activity) (i n m night : ℕ) → i + n < m + AU_NIGHT_AFTER → IsBrokenNight first p i n night → night < m
@@ -191,6 +193,6 @@ nights_all first p i n m broken consecutive last l y = record {
       omega arith);
   consecutive = (
     (λ z. (let d = y.two_are z in record { night = d.0; one = d.2; next = d.3 })),
-    (λ h. y.are_two h.night (ends_before first p i n m (h.night + 96) l h.next) h.one h.next),
+    (λ h. y.are_two h.night (ends_before first p i n m (h.night + day_units Hvnl) l h.next) h.one h.next),
   );
 }

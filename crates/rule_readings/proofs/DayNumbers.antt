@@ -12,11 +12,13 @@ use Rattle.duty_core.specs.History.{pad_days}
 use Rattle.duty_core.specs.Day.{IsNumberOfDay, day_number}
 use Rattle.duty_core.specs.Counting.{places}
 use Rattle.duty_core.specs.LostMinutes.{is_lost, lost}
+use Rattle.rule_readings.specs.declared.ca_day.TheConstants.{DAY_LIMIT}
+use Rattle.rule_readings.specs.declared.deferral.TheConstants.{DAY_ZERO}
 use Rattle.rule_readings.specs.CaHistory.{IsByMinutes}
 use Rattle.rule_readings.proofs.DayBases.{days_rise}
 
 -- a day from day 0 on
-pub number_after : (day : ℤ) (a : ℕ) → a ≡ nat_abs day → lt_z day (pos 0) ≡ false → IsNumberOfDay day (29 + a)
+pub number_after : (day : ℤ) (a : ℕ) → a ≡ nat_abs day → lt_z day (pos 0) ≡ false → IsNumberOfDay day (DAY_ZERO + a)
 unfolding pad_days
 number_after (pos n) a e h = omega (arith, ints)
 number_after (negsuc n) a e h = absurd (let z : true ≡ false = h in cc)
@@ -25,7 +27,7 @@ not_below : (n : ℕ) → lt_z (pos n) (pos 0) ≡ true → ⊥
 not_below n h = grind (arith, ints, by_lt_z)
 
 -- a day before day 0
-pub number_before : (day : ℤ) (a : ℕ) (o : Option ℕ) → a ≡ nat_abs day → lt_z day (pos 0) ≡ true → SomeIff o (a ≤ 29) (29 - a) → MatchOption o ((n : ℕ) → IsNumberOfDay day n → ⊥) (λ n. IsNumberOfDay day n)
+pub number_before : (day : ℤ) (a : ℕ) (o : Option ℕ) → a ≡ nat_abs day → lt_z day (pos 0) ≡ true → SomeIff o (a ≤ DAY_ZERO) (DAY_ZERO - a) → MatchOption o ((n : ℕ) → IsNumberOfDay day n → ⊥) (λ n. IsNumberOfDay day n)
 unfolding pad_days
 number_before (pos n) a o e h s = absurd (not_below n h)
 number_before (negsuc n) a None e h s = λ m g. s (omega (arith, ints))
@@ -60,7 +62,7 @@ lost_late params first p j l = places_none (λ i. nat_eq (day_number params firs
     (λ k m. let h = days_rise params first k (length p) (omega arith) in other_day (day_number params first k) j (is_lost p k) (λ e. omega arith))
 
 -- no day of a history has so great a number
-pub day_small : (params : Params) (first i : ℕ) → IsByMinutes params first → i ≤ MINUTE_LIMIT → day_number params first i < 150000
+pub day_small : (params : Params) (first i : ℕ) → IsByMinutes params first → i ≤ MINUTE_LIMIT → day_number params first i < DAY_LIMIT
 day_small params first i h l =
     let e : unit_minutes params * i ≡ 1 * i = ap (λ u. u * i) h.units in
     let f = h.early in

@@ -10,6 +10,7 @@ ghost use Rattle.rule_readings.specs.declared.padded.TheConstants.{LONGEST_PADDE
 ghost use Rattle.rule_readings.specs.EndFound.{IsEndFound};
 
 use crate::book::start_of_day;
+use crate::declared::ended_by;
 use crate::padded::Padded;
 use duty_core::{Activity, DAY_MINUTES, Minute, Params, unit_of};
 
@@ -27,7 +28,7 @@ pub(crate) fn last_end(padded: &Padded, least: u32, i: u32) -> Option<u32>
     ensures { IsEndFound least padded.now i result }
 {
     let runs = padded.rest_runs();
-    let mut rest = runs.partition_point(|run| run.to <= i);
+    let mut rest = ended_by(runs, i);
     while rest > 0 {
         rest -= 1;
         let run = runs[rest];

@@ -1,5 +1,6 @@
 //! The declared rests of a history: full rests, and shorter ones that a mark names.
-ghost use Rattle.std.specs.Prelude.{◌≡◌, ℕ, ◌+◌, ◌*◌, ◌≤◌, ◌↔◌, IsTrue, Contains, Some};
+ghost use Rattle.std.specs.Prelude.{◌≡◌, ℕ, ◌+◌, ◌*◌, ◌≤◌, ◌↔◌, IsTrue, Contains, Some, length, leb, true, false};
+ghost use Rattle.std.specs.List.Sorted.{IsNonDecreasingBy, IsPartitionPoint};
 ghost use Rattle.duty_core.specs.declared.mark.Mark.TheVariants.{SplitRest};
 ghost use Rattle.duty_core.specs.declared.limits.TheConstants.{MINUTE_LIMIT, PADDING_MINUTES};
 ghost use Rattle.duty_core.specs.Params.{unit_minutes};
@@ -80,6 +81,15 @@ pub(crate) fn is_declared(
     run.to - run.from >= full || is_split_at(params, first, marks, run.from)
 }
 
+/// How many of the rest runs, which end one after the other, have ended at place `i` or before.
+pub(crate) fn ended_by(runs: &[RestRun], i: u32) -> usize
+    requires { IsNonDecreasingBy (λ run. run.to) runs.now }
+    ensures bound { result ≤ length runs.now }
+    ensures first { IsPartitionPoint (λ run. leb run.to i ≡ true) (λ run. leb run.to i ≡ false) runs.now result }
+{
+    runs.partition_point(|run| run.to <= i)
+}
+
 /// The last declared rest that has ended at place `i` or before. `None` where there is none.
 pub(crate) fn last_declared(
     padded: &Padded,
@@ -93,7 +103,7 @@ pub(crate) fn last_declared(
     ensures { IsLastFound full padded.now (IsSplitAt params first marks.now) i result }
 {
     let runs = padded.rest_runs();
-    let mut rest = runs.partition_point(|run| run.to <= i);
+    let mut rest = ended_by(runs, i);
     while rest > 0 {
         rest -= 1;
         let run = runs[rest];
@@ -117,7 +127,7 @@ pub(crate) fn next_declared(
     ensures { IsFirstFound full padded.now (IsSplitAt params first marks.now) i result }
 {
     let runs = padded.rest_runs();
-    for next in runs.partition_point(|run| run.to <= i)..runs.len() {
+    for next in ended_by(runs, i)..runs.len() {
         let run = runs[next];
         if is_declared(params, first, marks, full, run) {
             return Some(run);

@@ -1,5 +1,4 @@
-use Rattle.std.proofs.Common.{◌-◌, get_or, leb, rules, inl, inr, arith}
-use Rattle.std.proofs.lemmas.List.Sorted.{IsPartitionPoint-from_clause, IsPartitionedBy-leb}
+use Rattle.std.proofs.Common.{◌-◌, get_or, inl, inr, arith}
 use Rattle.rule_readings.specs.declared.padded.RestRun.{RestRun}
 use Rattle.rule_readings.proofs.DeclaredRuns.{found_last, found_none, leaves_less, leaves_first, runs_rise}
 use Rattle.rule_readings.proofs.DayBases.{Unmarked, end_of_unmarked}
@@ -8,12 +7,11 @@ use Rattle.rule_readings.proofs.days.last_end.Goals as goal
 abbrev empty : RestRun
 empty = record { from = 0; to = 0 }
 
+pub ended_by-rest-requires : goal.ended_by-rest-requires
+ended_by-rest-requires c = runs_rise c.args.padded.now c.rest_runs-runs.result.now c.rest_runs-runs.ensures.runs
+
 pub loop-rest-init : goal.loop-rest-init
-loop-rest-init c =
-    let runs = c.rest_runs-runs.result.now in
-    let parted = IsPartitionedBy-leb (λ (run : RestRun). run.to) runs c.args.i (runs_rise c.args.padded.now runs c.rest_runs-runs.ensures.runs) in
-    let point = IsPartitionPoint-from_clause (λ run. leb run.to c.args.i) _ _ c.partition_point-rest.ensures.partitioned parted (λ a r q k. search rules) in
-    leaves_first c.args.least Unmarked c.args.i runs c.partition_point-rest.result c.partition_point-rest.ensures.bound point
+loop-rest-init c = leaves_first c.args.least Unmarked c.args.i c.rest_runs-runs.result.now c.ended_by-rest.result c.ended_by-rest.ensures.bound c.ended_by-rest.ensures.first
 
 pub loop-rest-preserved : goal.loop-rest-preserved
 loop-rest-preserved c =
