@@ -1,5 +1,5 @@
 -- A rule that is kept has its values within its limit, and a rule that is asked at places is kept where they are.
-use Rattle.std.proofs.Common.{◌≡◌, ℕ, ◌+◌, ◌*◌, ◌<◌, ◌≤◌, Bool, true, false, List, length, max, refl, ap, subst, arith, inl, inr, zero, suc, eq-eqb}
+use Rattle.std.proofs.Common.{◌≡◌, ℕ, ◌+◌, ◌*◌, ◌<◌, ◌≤◌, Bool, true, false, List, length, max, refl, sym, ap, subst, arith, inl, inr, zero, suc, eq-eqb}
 use Rattle.std.specs.Prelude.{nat_eq, if◌then◌else◌}
 use Rattle.std.proofs.lemmas.Bool.{cases_lt, cases_Bool, eqb-true}
 use Rattle.duty_core.specs.declared.activity.Activity.{Activity}
@@ -31,7 +31,7 @@ use Rattle.rule_readings.specs.declared.scope.Scope.{Scope}
 use Rattle.rule_readings.specs.Asked.{asked_of, order_of}
 use Rattle.rule_readings.specs.Best.{IsNoBetter}
 use Rattle.rule_readings.specs.CaHistory.{IsPadded}
-use Rattle.rule_readings.specs.Values.{IsIn, IsPeriod, IsPeriodDuty, IsPeriodRest, IsMeasured, IsValue, MeetsAsked, IsAskedAtPlaces}
+use Rattle.rule_readings.specs.Values.{IsIn, IsPeriod, IsPeriodDuty, IsPeriodRest, IsMeasured, IsValue, MeetsAsked, IsAskedAtPlaces, IsWhole}
 use Rattle.rule_readings.proofs.AuRest.{IsLongestYet, longest_none, longest_rest_more, longest_duty_more}
 use Rattle.rule_readings.proofs.CountLaws.{AreCountsWithin, counts_kept, counts_back}
 use Rattle.rule_readings.proofs.DayOff.{day_off_back, day_off_from, day_off_there}
@@ -48,6 +48,9 @@ kept amount since limit s p marks i n k g = counts_kept amount since (day_number
 -- each place is one of the scope's schedule
 abbrev pub IsAll : Scope → List Activity → Type 0
 IsAll s p = (i : ℕ) → i < length p → IsIn s.planned i
+
+pub whole_is_all : (s : Scope) (p : List Activity) → IsWhole s p → IsAll s p
+whole_is_all s p w = λ i l. subst (λ span. IsIn span i) (sym w.planned) (record { from = omega arith; to = l })
 
 -- each value is within the limit
 abbrev AreMet : Measure → ℕ → Scope → List Activity → List Mark → Type 0

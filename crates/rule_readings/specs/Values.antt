@@ -1,5 +1,5 @@
 -- What the reading of each rule looks at in a padded history p: a place, and the value there. All of it is counted as the rule itself counts.
-use Rattle.std.specs.Prelude.{◌≡◌, ℕ, ◌+◌, ◌-◌, ◌*◌, ◌<◌, ◌≤◌, List}
+use Rattle.std.specs.Prelude.{◌≡◌, ℕ, ◌+◌, ◌-◌, ◌*◌, ◌<◌, ◌≤◌, List, length}
 use Rattle.duty_core.specs.declared.activity.Activity.{Activity}
 use Rattle.duty_core.specs.declared.mark.Mark.{Mark}
 use Rattle.duty_core.specs.declared.params.Params.{Params}
@@ -140,6 +140,11 @@ IsAskable params first (PeriodDuty start units) = units ≤ AU_14D_PERIOD
 IsAskable params first (PeriodRest units) = units ≤ AU_14D_PERIOD
 IsAskable params first PeriodNights = BeginsUnit Hvnl first
 IsAskable params first _ = Unit {0}
+
+-- all places of p are looked at
+pub record IsWhole (s : Scope) (p : List Activity) : Type 0 where
+  pub history : s.history ≡ record { from = 0; to = length p }
+  pub planned : s.planned ≡ record { from = 0; to = length p }
 
 -- A rule asks nothing but that its values are within its limit, unless it asks of marks, of each day or of nights that follow each other.
 abbrev pub IsAskedAtPlaces : Rule → Type 0

@@ -6,8 +6,7 @@ ghost use Rattle.duty_core.specs.Marks.{IsSplitAt};
 ghost use Rattle.rule_readings.specs.BaseFound.{IsBaseFound};
 
 use crate::declared::last_declared;
-use crate::padded::Padded;
-use duty_core::{Marks, Minute, Params};
+use crate::history::History;
 
 /// The place from which a place's driving, duty and elapsed time are counted, and how many units
 /// of a split rest elapsed time omits.
@@ -19,18 +18,11 @@ pub(crate) struct Base {
 
 /// The base of place `i`, where a full rest is at least `full` units long. `None` where there is
 /// none.
-pub(crate) fn base_at(
-    padded: &Padded,
-    params: Params,
-    first: Minute,
-    marks: &Marks,
-    full: u32,
-    i: u32,
-) -> Option<Base>
-    requires early { first ≤ MINUTE_LIMIT }
-    ensures { IsBaseFound (IsBase full padded.now (IsSplitAt params first marks.now) i) result }
+pub(crate) fn base_at(history: &History<'_>, full: u32, i: u32) -> Option<Base>
+    requires early { history.now.scope.first ≤ MINUTE_LIMIT }
+    ensures { IsBaseFound (IsBase full history.now.padded.now (IsSplitAt history.now.scope.params history.now.scope.first history.now.marks.now) i) result }
 {
-    let last = last_declared(padded, params, first, marks, full, i)?;
+    let last = last_declared(history, full, i)?;
     let rest = last.to - last.from;
     if rest >= full {
         return Some(Base {
@@ -38,7 +30,7 @@ pub(crate) fn base_at(
             omitted: 0,
         });
     }
-    let earlier = last_declared(padded, params, first, marks, full, last.from)?;
+    let earlier = last_declared(history, full, last.from)?;
     Some(Base {
         base: earlier.to,
         omitted: rest,

@@ -9,36 +9,32 @@ ghost use Rattle.rule_readings.specs.Readings.{IsScope, IsReadingFound, AreReadi
 
 use crate::book::rules_of_book;
 use crate::declared::minute_at;
+use crate::history::History;
 use crate::lost::LostMinutes;
 use crate::measure::asked_of;
 use crate::padded::Padded;
 use crate::reading::{Reading, ReadingList};
-use crate::scope::{Scope, scope_of};
+use crate::scope::scope_of;
 use crate::values::best_of;
 use duty_core::{Marks, Minute, NoMemory, Params, Rule};
 use std::alloc::Global;
 use timeline::Timeline;
 
 /// The reading of the rule. `None` where it looks at nothing.
-fn reading_of(
-    padded: &Padded,
-    lost: &LostMinutes,
-    scope: &Scope,
-    marks: &Marks,
-    rule: Rule,
-) -> Option<Reading>
-    requires good { AreGoodParams scope.now.params }
-    requires begins { BeginsUnit scope.now.params scope.now.first }
-    requires early { DAY_MINUTES ≤ scope.now.first }
-    requires late { scope.now.first ≤ MINUTES_OF_CENTURY }
-    requires counts { AreLostCounts padded.now lost.now }
-    requires of_book { Contains (rules_of scope.now.params) rule }
-    requires scope { IsScope scope.now padded.now }
-    ensures { IsReadingFound scope.now padded.now marks.now rule result }
+fn reading_of(history: &History<'_>, rule: Rule) -> Option<Reading>
+    requires good { AreGoodParams history.now.scope.params }
+    requires begins { BeginsUnit history.now.scope.params history.now.scope.first }
+    requires early { DAY_MINUTES ≤ history.now.scope.first }
+    requires late { history.now.scope.first ≤ MINUTES_OF_CENTURY }
+    requires counts { AreLostCounts history.now.padded.now history.now.lost.now }
+    requires of_book { Contains (rules_of history.now.scope.params) rule }
+    requires scope { IsScope history.now.scope history.now.padded.now }
+    ensures { IsReadingFound history.now.scope history.now.padded.now history.now.marks.now rule result }
 {
-    let _places = padded.len();
+    let _places = history.padded.len();
+    let scope = history.scope;
     let asked = asked_of(scope.params, rule);
-    let best = best_of(padded, lost, scope, marks, asked.measure)?;
+    let best = best_of(history, asked.measure)?;
     Some(Reading {
         used: best.used,
         limit: asked.limit,
@@ -72,10 +68,15 @@ pub fn readings(
 {
     let padded = Padded::new(alloc, params, history)?;
     let lost = LostMinutes::new(alloc, &padded)?;
-    let scope = scope_of(params, history, first, planned_from);
+    let whole = History {
+        padded: &padded,
+        lost: &lost,
+        marks,
+        scope: scope_of(params, history, first, planned_from),
+    };
     let mut readings = ReadingList::new(alloc);
     for rule in rules_of_book(params) {
-        readings.push((*rule, reading_of(&padded, &lost, &scope, marks, *rule)))?;
+        readings.push((*rule, reading_of(&whole, *rule)))?;
     }
     Ok(readings)
 }

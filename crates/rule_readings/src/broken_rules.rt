@@ -8,13 +8,14 @@ ghost use Rattle.rule_readings.specs.Asked.{asked_of};
 ghost use Rattle.rule_readings.specs.CaHistory.{IsPadded};
 ghost use Rattle.rule_readings.specs.Broken.{AreBroken};
 ghost use Rattle.rule_readings.specs.Lost.{AreLostCounts};
-ghost use Rattle.rule_readings.specs.Values.{IsAskable, IsAskedAtPlaces, MeetsAsked};
+ghost use Rattle.rule_readings.specs.Values.{IsAskable, IsAskedAtPlaces, IsWhole, MeetsAsked};
 
 use crate::au_nights::keeps_nights;
 use crate::best::Order;
 use crate::book::rules_of_book;
 use crate::ca_pair::keeps_pair;
 use crate::deferral::{keeps_defer, keeps_off10};
+use crate::history::History;
 use crate::lost::LostMinutes;
 use crate::measure::{Asked, asked_of, order_of};
 use crate::padded::Padded;
@@ -40,37 +41,18 @@ fn is_within(asked: Asked, value: Option<u32>) -> bool
 }
 
 /// Whether each value that the rule looks at is within its limit.
-fn keeps_at_places(
-    padded: &Padded,
-    lost: &LostMinutes,
-    params: Params,
-    first: Minute,
-    marks: &Marks,
-    rule: Rule,
-) -> bool
-    requires early { first ≤ MINUTE_LIMIT }
-    requires padded { IsPadded params padded.now }
-    requires counts { AreLostCounts padded.now lost.now }
-    requires askable { IsAskable params first (asked_of params rule).measure }
+fn keeps_at_places(history: &History<'_>, rule: Rule) -> bool
+    requires early { history.now.scope.first ≤ MINUTE_LIMIT }
+    requires padded { IsPadded history.now.scope.params history.now.padded.now }
+    requires counts { AreLostCounts history.now.padded.now history.now.lost.now }
+    requires askable { IsAskable history.now.scope.params history.now.scope.first (asked_of history.now.scope.params rule).measure }
+    requires whole { IsWhole history.now.scope history.now.padded.now }
     requires places { IsAskedAtPlaces rule }
-    ensures { IsTrue result ↔ KeepsPadded params first padded.now marks.now rule }
+    ensures { IsTrue result ↔ KeepsPadded history.now.scope.params history.now.scope.first history.now.padded.now history.now.marks.now rule }
 {
-    let asked = asked_of(params, rule);
-    let all = Span {
-        from: 0,
-        to: padded.len(),
-    };
-    let scope = Scope {
-        params,
-        first,
-        history: all,
-        planned: all,
-    };
-    for i in 0..padded.len() {
-        if !is_within(
-            asked,
-            value_at(padded, lost, &scope, marks, asked.measure, i),
-        ) {
+    let asked = asked_of(history.scope.params, rule);
+    for i in 0..history.padded.len() {
+        if !is_within(asked, value_at(history, asked.measure, i)) {
             return false;
         }
     }
@@ -78,29 +60,23 @@ fn keeps_at_places(
 }
 
 /// Whether the history keeps the rule of the book with these marks.
-fn keeps(
-    padded: &Padded,
-    lost: &LostMinutes,
-    params: Params,
-    first: Minute,
-    marks: &Marks,
-    rule: Rule,
-) -> bool
-    requires good { AreGoodParams params }
-    requires begins { BeginsUnit params first }
-    requires early { first ≤ MINUTE_LIMIT }
-    requires padded { IsPadded params padded.now }
-    requires counts { AreLostCounts padded.now lost.now }
-    requires of_book { Contains (rules_of params) rule }
-    ensures { IsTrue result ↔ KeepsPadded params first padded.now marks.now rule }
+fn keeps(history: &History<'_>, rule: Rule) -> bool
+    requires good { AreGoodParams history.now.scope.params }
+    requires begins { BeginsUnit history.now.scope.params history.now.scope.first }
+    requires early { history.now.scope.first ≤ MINUTE_LIMIT }
+    requires padded { IsPadded history.now.scope.params history.now.padded.now }
+    requires counts { AreLostCounts history.now.padded.now history.now.lost.now }
+    requires whole { IsWhole history.now.scope history.now.padded.now }
+    requires of_book { Contains (rules_of history.now.scope.params) rule }
+    ensures { IsTrue result ↔ KeepsPadded history.now.scope.params history.now.scope.first history.now.padded.now history.now.marks.now rule }
 {
     match rule {
-        Rule::UsPair => keeps_us_pair(padded, params, first, marks),
-        Rule::CaOff10 => keeps_off10(padded, lost, params, first, marks),
-        Rule::CaDefer => keeps_defer(padded, lost, params, first, marks),
-        Rule::CaPair => keeps_pair(padded, params, first, marks),
-        Rule::Au14dNights => keeps_nights(padded, first),
-        _ => keeps_at_places(padded, lost, params, first, marks, rule),
+        Rule::UsPair => keeps_us_pair(history),
+        Rule::CaOff10 => keeps_off10(history),
+        Rule::CaDefer => keeps_defer(history),
+        Rule::CaPair => keeps_pair(history),
+        Rule::Au14dNights => keeps_nights(history.padded, history.scope.first),
+        _ => keeps_at_places(history, rule),
     }
 }
 
@@ -121,9 +97,24 @@ pub fn broken(
 {
     let padded = Padded::new(alloc, params, history)?;
     let lost = LostMinutes::new(alloc, &padded)?;
+    let all = Span {
+        from: 0,
+        to: padded.len(),
+    };
+    let whole = History {
+        padded: &padded,
+        lost: &lost,
+        marks,
+        scope: Scope {
+            params,
+            first,
+            history: all,
+            planned: all,
+        },
+    };
     let mut rules = Rules::new(alloc);
     for rule in rules_of_book(params) {
-        if !keeps(&padded, &lost, params, first, marks, *rule) {
+        if !keeps(&whole, *rule) {
             rules.push(*rule)?;
         }
     }

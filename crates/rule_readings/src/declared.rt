@@ -8,8 +8,9 @@ ghost use Rattle.duty_core.specs.Marks.{IsMinuteOf, IsSplitAt};
 ghost use Rattle.rule_readings.specs.declared.padded.TheConstants.{LONGEST_PADDED};
 ghost use Rattle.rule_readings.specs.Found.{DeclaresRun, IsLastFound, IsFirstFound};
 
-use crate::padded::{Padded, RestRun};
-use duty_core::{Mark, Marks, Minute, PADDING_MINUTES, Params, unit_of};
+use crate::history::History;
+use crate::padded::RestRun;
+use duty_core::{Mark, Minute, PADDING_MINUTES, Params, unit_of};
 
 /// The civil minute at which a place of a padded history begins. `None` where it lies before year
 /// 2000.
@@ -54,31 +55,25 @@ fn has_split(marks: &[Mark], at: Minute) -> bool
 }
 
 /// Whether a mark names the rest run that begins at the place.
-pub(crate) fn is_split_at(params: Params, first: Minute, marks: &Marks, place: u32) -> bool
-    requires early { first ≤ MINUTE_LIMIT }
+pub(crate) fn is_split_at(history: &History<'_>, place: u32) -> bool
+    requires early { history.now.scope.first ≤ MINUTE_LIMIT }
     requires inside { place ≤ LONGEST_PADDED }
-    ensures { IsTrue result ↔ IsSplitAt params first marks.now place }
+    ensures { IsTrue result ↔ IsSplitAt history.now.scope.params history.now.scope.first history.now.marks.now place }
 {
-    match minute_of(params, first, place) {
-        Some(at) => has_split(marks.items(), at),
+    match minute_of(history.scope.params, history.scope.first, place) {
+        Some(at) => has_split(history.marks.items(), at),
         None => false,
     }
 }
 
 /// Whether a rest run is declared: it is at least `full` units long, or a mark names it.
-pub(crate) fn is_declared(
-    params: Params,
-    first: Minute,
-    marks: &Marks,
-    full: u32,
-    run: RestRun,
-) -> bool
-    requires early { first ≤ MINUTE_LIMIT }
+pub(crate) fn is_declared(history: &History<'_>, full: u32, run: RestRun) -> bool
+    requires early { history.now.scope.first ≤ MINUTE_LIMIT }
     requires inside { run.from ≤ LONGEST_PADDED }
     requires order { run.from ≤ run.to }
-    ensures { IsTrue result ↔ DeclaresRun full (IsSplitAt params first marks.now) run.from run.to }
+    ensures { IsTrue result ↔ DeclaresRun full (IsSplitAt history.now.scope.params history.now.scope.first history.now.marks.now) run.from run.to }
 {
-    run.to - run.from >= full || is_split_at(params, first, marks, run.from)
+    run.to - run.from >= full || is_split_at(history, run.from)
 }
 
 /// How many of the rest runs, which end one after the other, have ended at place `i` or before.
@@ -91,23 +86,16 @@ pub(crate) fn ended_by(runs: &[RestRun], i: u32) -> usize
 }
 
 /// The last declared rest that has ended at place `i` or before. `None` where there is none.
-pub(crate) fn last_declared(
-    padded: &Padded,
-    params: Params,
-    first: Minute,
-    marks: &Marks,
-    full: u32,
-    i: u32,
-) -> Option<RestRun>
-    requires early { first ≤ MINUTE_LIMIT }
-    ensures { IsLastFound full padded.now (IsSplitAt params first marks.now) i result }
+pub(crate) fn last_declared(history: &History<'_>, full: u32, i: u32) -> Option<RestRun>
+    requires early { history.now.scope.first ≤ MINUTE_LIMIT }
+    ensures { IsLastFound full history.now.padded.now (IsSplitAt history.now.scope.params history.now.scope.first history.now.marks.now) i result }
 {
-    let runs = padded.rest_runs();
+    let runs = history.padded.rest_runs();
     let mut rest = ended_by(runs, i);
     while rest > 0 {
         rest -= 1;
         let run = runs[rest];
-        if is_declared(params, first, marks, full, run) {
+        if is_declared(history, full, run) {
             return Some(run);
         }
     }
@@ -115,21 +103,14 @@ pub(crate) fn last_declared(
 }
 
 /// The first declared rest that ends after place `i`. `None` where there is none.
-pub(crate) fn next_declared(
-    padded: &Padded,
-    params: Params,
-    first: Minute,
-    marks: &Marks,
-    full: u32,
-    i: u32,
-) -> Option<RestRun>
-    requires early { first ≤ MINUTE_LIMIT }
-    ensures { IsFirstFound full padded.now (IsSplitAt params first marks.now) i result }
+pub(crate) fn next_declared(history: &History<'_>, full: u32, i: u32) -> Option<RestRun>
+    requires early { history.now.scope.first ≤ MINUTE_LIMIT }
+    ensures { IsFirstFound full history.now.padded.now (IsSplitAt history.now.scope.params history.now.scope.first history.now.marks.now) i result }
 {
-    let runs = padded.rest_runs();
+    let runs = history.padded.rest_runs();
     for next in ended_by(runs, i)..runs.len() {
         let run = runs[next];
-        if is_declared(params, first, marks, full, run) {
+        if is_declared(history, full, run) {
             return Some(run);
         }
     }

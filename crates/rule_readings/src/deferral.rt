@@ -13,7 +13,7 @@ ghost use Rattle.rule_readings.specs.Deferring.{IsOpenRest, HasRunIn, DefersDay,
 
 use crate::book::is_defer_way;
 use crate::ca_day::{DAY_LIMIT, day_begin, day_of};
-use crate::lost::LostMinutes;
+use crate::history::History;
 use crate::padded::{Padded, RestRun};
 use duty_core::{
     CA_BOTH_LOST_LIMIT, CA_DEFERRED_LOST_LIMIT, CA_FULL_REST, CA_LOST_LIMIT, Day, Mark, Marks,
@@ -82,38 +82,27 @@ pub(crate) fn is_in_deferral(marks: &Marks, number: u32) -> bool
 }
 
 /// Whether the day with this number is in a deferral, or loses at most as much as it may.
-fn meets_off10(
-    padded: &Padded,
-    lost: &LostMinutes,
-    params: Params,
-    first: Minute,
-    marks: &Marks,
-    number: u32,
-) -> bool
-    requires counts { AreLostCounts padded.now lost.now }
-    requires minutes { IsByMinutes params first }
+fn meets_off10(history: &History<'_>, number: u32) -> bool
+    requires counts { AreLostCounts history.now.padded.now history.now.lost.now }
+    requires minutes { IsByMinutes history.now.scope.params history.now.scope.first }
     requires small { number ≤ DAY_LIMIT }
-    ensures { IsTrue result ↔ MeetsCaOff10 (day_number params first) padded.now (IsDeferred marks.now) number }
+    ensures { IsTrue result ↔ MeetsCaOff10 (day_number history.now.scope.params history.now.scope.first) history.now.padded.now (IsDeferred history.now.marks.now) number }
 {
-    lost.in_day(padded, params, first, number) <= CA_LOST_LIMIT || is_in_deferral(marks, number)
+    history.lost_in(number) <= CA_LOST_LIMIT || is_in_deferral(history.marks, number)
 }
 
 /// Whether each day that is in no deferral has its ten hours of rest.
-pub(crate) fn keeps_off10(
-    padded: &Padded,
-    lost: &LostMinutes,
-    params: Params,
-    first: Minute,
-    marks: &Marks,
-) -> bool
-    requires counts { AreLostCounts padded.now lost.now }
-    requires minutes { IsByMinutes params first }
-    ensures { IsTrue result ↔ ((j : ℕ) → MeetsCaOff10 (day_number params first) padded.now (IsDeferred marks.now) j) }
+pub(crate) fn keeps_off10(history: &History<'_>) -> bool
+    requires counts { AreLostCounts history.now.padded.now history.now.lost.now }
+    requires minutes { IsByMinutes history.now.scope.params history.now.scope.first }
+    ensures { IsTrue result ↔ ((j : ℕ) → MeetsCaOff10 (day_number history.now.scope.params history.now.scope.first) history.now.padded.now (IsDeferred history.now.marks.now) j) }
 {
+    let params = history.scope.params;
+    let first = history.scope.first;
     let begin = day_of(params, first, 0);
-    let end = day_of(params, first, padded.len()) + 1;
+    let end = day_of(params, first, history.padded.len()) + 1;
     for number in begin..end {
-        if !meets_off10(padded, lost, params, first, marks, number) {
+        if !meets_off10(history, number) {
             return false;
         }
     }
@@ -165,87 +154,67 @@ fn has_rest_in(padded: &Padded, params: Params, first: Minute, least: u32, numbe
 }
 
 /// Whether rest of the day with this number may be deferred to the next day.
-pub(crate) fn is_deferral(
-    padded: &Padded,
-    lost: &LostMinutes,
-    params: Params,
-    first: Minute,
-    number: u32,
-) -> bool
-    requires counts { AreLostCounts padded.now lost.now }
-    requires minutes { IsByMinutes params first }
-    ensures { IsTrue result ↔ IsDeferral (day_number params first) padded.now number }
+pub(crate) fn is_deferral(history: &History<'_>, number: u32) -> bool
+    requires counts { AreLostCounts history.now.padded.now history.now.lost.now }
+    requires minutes { IsByMinutes history.now.scope.params history.now.scope.first }
+    ensures { IsTrue result ↔ IsDeferral (day_number history.now.scope.params history.now.scope.first) history.now.padded.now number }
 {
-    let _places = padded.len();
+    let _places = history.padded.len();
     if number >= DAY_LIMIT {
         return false;
     }
-    let own = lost.in_day(padded, params, first, number);
-    let next = lost.in_day(padded, params, first, number + 1);
+    let own = history.lost_in(number);
+    let next = history.lost_in(number + 1);
     if own <= CA_LOST_LIMIT || own > CA_DEFERRED_LOST_LIMIT || own + next > CA_BOTH_LOST_LIMIT {
         return false;
     }
     let least = CA_FULL_REST + (own - CA_LOST_LIMIT);
-    has_rest_in(padded, params, first, least, number + 1)
+    has_rest_in(
+        history.padded,
+        history.scope.params,
+        history.scope.first,
+        least,
+        number + 1,
+    )
 }
 
 /// Whether a mark of this day stands for a deferral under the way `defer`, and the next day has no
 /// mark.
-fn meets_day(
-    padded: &Padded,
-    lost: &LostMinutes,
-    params: Params,
-    first: Minute,
-    marks: &Marks,
-    day: Day,
-) -> bool
-    requires counts { AreLostCounts padded.now lost.now }
-    requires minutes { IsByMinutes params first }
-    ensures { IsTrue result ↔ IsCaDeferral params (day_number params first) padded.now marks.now day }
+fn meets_day(history: &History<'_>, day: Day) -> bool
+    requires counts { AreLostCounts history.now.padded.now history.now.lost.now }
+    requires minutes { IsByMinutes history.now.scope.params history.now.scope.first }
+    ensures { IsTrue result ↔ IsCaDeferral history.now.scope.params (day_number history.now.scope.params history.now.scope.first) history.now.padded.now history.now.marks.now day }
 {
     match number_of(day) {
         Some(number) => {
-            is_defer_way(params)
-                && is_deferral(padded, lost, params, first, number)
-                && !is_deferred(marks, number + 1)
+            is_defer_way(history.scope.params)
+                && is_deferral(history, number)
+                && !is_deferred(history.marks, number + 1)
         }
         None => false,
     }
 }
 
 /// Whether the mark, if it defers a day, may do so.
-fn meets_mark(
-    padded: &Padded,
-    lost: &LostMinutes,
-    params: Params,
-    first: Minute,
-    marks: &Marks,
-    mark: Mark,
-) -> bool
-    requires counts { AreLostCounts padded.now lost.now }
-    requires minutes { IsByMinutes params first }
-    ensures { IsTrue result ↔ MeetsMark params (day_number params first) padded.now marks.now mark }
+fn meets_mark(history: &History<'_>, mark: Mark) -> bool
+    requires counts { AreLostCounts history.now.padded.now history.now.lost.now }
+    requires minutes { IsByMinutes history.now.scope.params history.now.scope.first }
+    ensures { IsTrue result ↔ MeetsMark history.now.scope.params (day_number history.now.scope.params history.now.scope.first) history.now.padded.now history.now.marks.now mark }
 {
     match mark {
-        Mark::DeferDay { day } => meets_day(padded, lost, params, first, marks, day),
+        Mark::DeferDay { day } => meets_day(history, day),
         Mark::SplitRest { .. } => true,
     }
 }
 
 /// Whether each mark that defers a day may do so.
-pub(crate) fn keeps_defer(
-    padded: &Padded,
-    lost: &LostMinutes,
-    params: Params,
-    first: Minute,
-    marks: &Marks,
-) -> bool
-    requires counts { AreLostCounts padded.now lost.now }
-    requires minutes { IsByMinutes params first }
-    ensures { IsTrue result ↔ MeetsCaDefer params (day_number params first) padded.now marks.now }
+pub(crate) fn keeps_defer(history: &History<'_>) -> bool
+    requires counts { AreLostCounts history.now.padded.now history.now.lost.now }
+    requires minutes { IsByMinutes history.now.scope.params history.now.scope.first }
+    ensures { IsTrue result ↔ MeetsCaDefer history.now.scope.params (day_number history.now.scope.params history.now.scope.first) history.now.padded.now history.now.marks.now }
 {
-    for mark in marks.items() {
-        if !meets_mark(padded, lost, params, first, marks, *mark) {
+    for mark in history.marks.items() {
+        if !meets_mark(history, *mark) {
             return false;
         }
     }

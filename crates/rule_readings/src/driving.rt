@@ -11,10 +11,10 @@ ghost use Rattle.rule_readings.specs.Values.{IsPlannedCount};
 use crate::base::{Base, base_at};
 use crate::breaks::last_break;
 use crate::days::{days_base, first_of_days, is_driving, last_end};
+use crate::history::History;
 use crate::measure::{Amount, Since};
 use crate::padded::Padded;
-use crate::scope::{Scope, is_in};
-use duty_core::Marks;
+use crate::scope::is_in;
 
 /// A place from which all is counted, if there is one.
 fn whole(from: Option<u32>) -> Option<Base>
@@ -27,21 +27,22 @@ fn whole(from: Option<u32>) -> Option<Base>
 }
 
 /// The place from which is counted at place `i`. `None` where there is none.
-fn base_since(padded: &Padded, scope: &Scope, marks: &Marks, since: Since, i: u32) -> Option<Base>
-    requires early { scope.now.first ≤ MINUTE_LIMIT }
+fn base_since(history: &History<'_>, since: Since, i: u32) -> Option<Base>
+    requires early { history.now.scope.first ≤ MINUTE_LIMIT }
     requires days { HasDays since }
-    requires inside { i < length padded.now }
+    requires inside { i < length history.now.padded.now }
     ensures found { IsBaseFound
-        (CountsFrom since (day_number scope.now.params scope.now.first) padded.now
-        (IsSplitAt scope.now.params scope.now.first marks.now) i)
+        (CountsFrom since (day_number history.now.scope.params history.now.scope.first) history.now.padded.now
+        (IsSplitAt history.now.scope.params history.now.scope.first history.now.marks.now) i)
         result }
     ensures before { IfSome result (λ at. at.base ≤ i) }
 {
+    let padded = history.padded;
+    let params = history.scope.params;
+    let first = history.scope.first;
     let _places = padded.len();
-    let params = scope.params;
-    let first = scope.first;
     match since {
-        Since::Base { full } => base_at(padded, params, first, marks, full, i),
+        Since::Base { full } => base_at(history, full, i),
         Since::Break => whole(last_break(padded, i)),
         Since::Day => whole(Some(first_of_days(params, first, 1, i))),
         Since::Days { days, restart } => {
@@ -69,28 +70,26 @@ fn amount_from(padded: &Padded, amount: Amount, from: Base, i: u32) -> u32
 /// What is counted at place `i`. `None` where that is no unit of driving of the schedule, and where
 /// there is no place from which is counted.
 pub(crate) fn planned_count(
-    padded: &Padded,
-    scope: &Scope,
-    marks: &Marks,
+    history: &History<'_>,
     amount: Amount,
     since: Since,
     i: u32,
 ) -> Option<u32>
-    requires early { scope.now.first ≤ MINUTE_LIMIT }
+    requires early { history.now.scope.first ≤ MINUTE_LIMIT }
     requires days { HasDays since }
-    requires inside { i < length padded.now }
+    requires inside { i < length history.now.padded.now }
     ensures { IsCount
-        (IsPlannedCount scope.now.planned
-        (IsCountAt amount since (day_number scope.now.params scope.now.first) padded.now
-        (IsSplitAt scope.now.params scope.now.first marks.now))
+        (IsPlannedCount history.now.scope.planned
+        (IsCountAt amount since (day_number history.now.scope.params history.now.scope.first) history.now.padded.now
+        (IsSplitAt history.now.scope.params history.now.scope.first history.now.marks.now))
         i)
         result }
 {
-    if !is_in(scope.planned, i) || !is_driving(padded, i) {
+    if !is_in(history.scope.planned, i) || !is_driving(history.padded, i) {
         return None;
     }
-    match base_since(padded, scope, marks, since, i) {
-        Some(from) => Some(amount_from(padded, amount, from, i)),
+    match base_since(history, since, i) {
+        Some(from) => Some(amount_from(history.padded, amount, from, i)),
         None => None,
     }
 }

@@ -22,6 +22,7 @@ mod days;
 mod declared;
 mod deferral;
 mod driving;
+mod history;
 mod laws;
 mod losses;
 mod lost;

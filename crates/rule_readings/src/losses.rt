@@ -10,16 +10,14 @@ ghost use Rattle.rule_readings.specs.Values.{BeginsDayOf, IsLoss, IsDeferredLoss
 
 use crate::ca_day::{day_begin, day_of};
 use crate::deferral::{is_deferred, is_in_deferral};
-use crate::lost::LostMinutes;
-use crate::padded::Padded;
+use crate::history::History;
 use crate::scope::{Scope, Span, meets};
-use duty_core::Marks;
 
 /// Whether place `i` is the first one of its day, and a place of the span lies in that day.
-fn begins_day_of(scope: &Scope, span: Span, i: u32) -> bool
-    requires minutes { IsByMinutes scope.now.params scope.now.first }
+fn begins_day_of(scope: Scope, span: Span, i: u32) -> bool
+    requires minutes { IsByMinutes scope.params scope.first }
     requires inside { i ≤ LONGEST_PADDED }
-    ensures { IsTrue result ↔ BeginsDayOf span (day_number scope.now.params scope.now.first) i }
+    ensures { IsTrue result ↔ BeginsDayOf span (day_number scope.params scope.first) i }
 {
     let number = day_of(scope.params, scope.first, i);
     day_begin(scope.params, scope.first, number) == i
@@ -28,49 +26,38 @@ fn begins_day_of(scope: &Scope, span: Span, i: u32) -> bool
 
 /// The lost minutes of the day that begins at place `i`. `None` where none does, where it has no
 /// minute of the schedule and where it is in a deferral.
-pub(crate) fn loss(
-    padded: &Padded,
-    lost: &LostMinutes,
-    scope: &Scope,
-    marks: &Marks,
-    i: u32,
-) -> Option<u32>
-    requires counts { AreLostCounts padded.now lost.now }
-    requires minutes { IsByMinutes scope.now.params scope.now.first }
-    requires inside { i < length padded.now }
+pub(crate) fn loss(history: &History<'_>, i: u32) -> Option<u32>
+    requires counts { AreLostCounts history.now.padded.now history.now.lost.now }
+    requires minutes { IsByMinutes history.now.scope.params history.now.scope.first }
+    requires inside { i < length history.now.padded.now }
     ensures { IsCount
-        (IsLoss scope.now.planned (day_number scope.now.params scope.now.first) padded.now (IsDeferred marks.now) i)
+        (IsLoss history.now.scope.planned (day_number history.now.scope.params history.now.scope.first) history.now.padded.now (IsDeferred history.now.marks.now) i)
         result }
 {
-    let _places = padded.len();
+    let _places = history.padded.len();
+    let scope = history.scope;
     let number = day_of(scope.params, scope.first, i);
-    if !begins_day_of(scope, scope.planned, i) || is_in_deferral(marks, number) {
+    if !begins_day_of(scope, scope.planned, i) || is_in_deferral(history.marks, number) {
         return None;
     }
-    Some(lost.in_day(padded, scope.params, scope.first, number))
+    Some(history.lost_in(number))
 }
 
 /// The lost minutes of the deferred day that begins at place `i` and of the next day. `None` where
 /// no day begins, where it has no minute of the history and where it is not deferred.
-pub(crate) fn deferred_loss(
-    padded: &Padded,
-    lost: &LostMinutes,
-    scope: &Scope,
-    marks: &Marks,
-    i: u32,
-) -> Option<u32>
-    requires counts { AreLostCounts padded.now lost.now }
-    requires minutes { IsByMinutes scope.now.params scope.now.first }
-    requires inside { i < length padded.now }
+pub(crate) fn deferred_loss(history: &History<'_>, i: u32) -> Option<u32>
+    requires counts { AreLostCounts history.now.padded.now history.now.lost.now }
+    requires minutes { IsByMinutes history.now.scope.params history.now.scope.first }
+    requires inside { i < length history.now.padded.now }
     ensures { IsCount
-        (IsDeferredLoss scope.now.history (day_number scope.now.params scope.now.first) padded.now (IsDeferred marks.now) i)
+        (IsDeferredLoss history.now.scope.history (day_number history.now.scope.params history.now.scope.first) history.now.padded.now (IsDeferred history.now.marks.now) i)
         result }
 {
-    let _places = padded.len();
+    let _places = history.padded.len();
+    let scope = history.scope;
     let number = day_of(scope.params, scope.first, i);
-    if !begins_day_of(scope, scope.history, i) || !is_deferred(marks, number) {
+    if !begins_day_of(scope, scope.history, i) || !is_deferred(history.marks, number) {
         return None;
     }
-    let own = lost.in_day(padded, scope.params, scope.first, number);
-    Some(own + lost.in_day(padded, scope.params, scope.first, number + 1))
+    Some(history.lost_in(number) + history.lost_in(number + 1))
 }

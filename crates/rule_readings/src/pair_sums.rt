@@ -6,31 +6,23 @@ ghost use Rattle.rule_readings.specs.Count.{IsCount};
 ghost use Rattle.rule_readings.specs.Values.{IsPairSum};
 
 use crate::declared::{is_split_at, next_declared};
-use crate::padded::Padded;
-use duty_core::{Marks, Minute, Params};
+use crate::history::History;
 
 /// How long the split rest that begins at place `i` and the next declared rest are together, in
 /// units. `None` where no split rest begins, or the next declared rest has not ended.
-pub(crate) fn pair_sum(
-    padded: &Padded,
-    params: Params,
-    first: Minute,
-    marks: &Marks,
-    full: u32,
-    i: u32,
-) -> Option<u32>
-    requires early { first ≤ MINUTE_LIMIT }
-    requires inside { i < length padded.now }
-    ensures { IsCount (IsPairSum full padded.now (IsSplitAt params first marks.now) i) result }
+pub(crate) fn pair_sum(history: &History<'_>, full: u32, i: u32) -> Option<u32>
+    requires early { history.now.scope.first ≤ MINUTE_LIMIT }
+    requires inside { i < length history.now.padded.now }
+    ensures { IsCount (IsPairSum full history.now.padded.now (IsSplitAt history.now.scope.params history.now.scope.first history.now.marks.now) i) result }
 {
-    let _places = padded.len();
-    if !is_split_at(params, first, marks, i) {
+    let _places = history.padded.len();
+    if !is_split_at(history, i) {
         return None;
     }
-    let one = next_declared(padded, params, first, marks, full, i)?;
+    let one = next_declared(history, full, i)?;
     if one.from != i || one.to - one.from >= full {
         return None;
     }
-    let next = next_declared(padded, params, first, marks, full, one.to)?;
+    let next = next_declared(history, full, one.to)?;
     Some((one.to - one.from) + (next.to - next.from))
 }

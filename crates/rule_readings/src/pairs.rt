@@ -11,8 +11,9 @@ ghost use Rattle.rule_readings.specs.Pairs.{IsPair, IsPairedRun, IsSplitFound};
 
 use crate::book::berth_of;
 use crate::declared::{is_declared, last_declared, minute_of};
+use crate::history::History;
 use crate::padded::{Padded, RestRun};
-use duty_core::{Activity, Marks, Minute, Params};
+use duty_core::{Activity, Minute, Params};
 
 /// What a book asks of the sleeper berth in a pair of rests.
 #[derive(Clone, Copy, Debug, PartialEq, Eq)]
@@ -88,45 +89,33 @@ pub(crate) fn is_pair(padded: &Padded, terms: PairTerms, one: RestRun, next: Res
 
 /// Whether the rest, if it is declared and a split rest is the last declared rest before it, is the
 /// other rest of that one's pair.
-fn pairs_with_last(
-    padded: &Padded,
-    params: Params,
-    first: Minute,
-    marks: &Marks,
-    terms: PairTerms,
-    next: RestRun,
-) -> bool
-    requires early { first ≤ MINUTE_LIMIT }
-    requires run { IsRun padded.now next.from next.to }
-    requires bound { length padded.now ≤ LONGEST_PADDED }
+fn pairs_with_last(history: &History<'_>, terms: PairTerms, next: RestRun) -> bool
+    requires early { history.now.scope.first ≤ MINUTE_LIMIT }
+    requires run { IsRun history.now.padded.now next.from next.to }
+    requires bound { length history.now.padded.now ≤ LONGEST_PADDED }
     ensures { IsTrue result
-        ↔ IsPairedRun terms.full (IsPair terms padded.now) padded.now (IsSplitAt params first marks.now) next.from next.to }
+        ↔ IsPairedRun terms.full (IsPair terms history.now.padded.now) history.now.padded.now (IsSplitAt history.now.scope.params history.now.scope.first history.now.marks.now) next.from next.to }
 {
-    if !is_declared(params, first, marks, terms.full, next) {
+    if !is_declared(history, terms.full, next) {
         return true;
     }
-    match last_declared(padded, params, first, marks, terms.full, next.from) {
+    match last_declared(history, terms.full, next.from) {
         Some(one) => {
-            one.to.saturating_sub(one.from) >= terms.full || is_pair(padded, terms, one, next)
+            one.to.saturating_sub(one.from) >= terms.full
+                || is_pair(history.padded, terms, one, next)
         }
         None => true,
     }
 }
 
 /// Whether each split rest and the next declared rest are a pair, once that has ended.
-pub(crate) fn are_paired(
-    padded: &Padded,
-    params: Params,
-    first: Minute,
-    marks: &Marks,
-    terms: PairTerms,
-) -> bool
-    requires early { first ≤ MINUTE_LIMIT }
+pub(crate) fn are_paired(history: &History<'_>, terms: PairTerms) -> bool
+    requires early { history.now.scope.first ≤ MINUTE_LIMIT }
     ensures { IsTrue result
-        ↔ ((d : ℕ) → ArePairedAt terms.full (IsPair terms padded.now) padded.now (IsSplitAt params first marks.now) d) }
+        ↔ ((d : ℕ) → ArePairedAt terms.full (IsPair terms history.now.padded.now) history.now.padded.now (IsSplitAt history.now.scope.params history.now.scope.first history.now.marks.now) d) }
 {
-    for next in padded.rest_runs() {
-        if !pairs_with_last(padded, params, first, marks, terms, *next) {
+    for next in history.padded.rest_runs() {
+        if !pairs_with_last(history, terms, *next) {
             return false;
         }
     }
@@ -147,23 +136,19 @@ fn is_minute_of(params: Params, first: Minute, at: Minute, place: u32) -> bool
 
 /// The rest run that begins at the minute `at`, where it may be split: at least `least` and less
 /// than `full` units long, in a truck with a berth. `None` where there is none.
-pub(crate) fn split_run(
-    padded: &Padded,
-    params: Params,
-    first: Minute,
-    least: u32,
-    full: u32,
-    at: Minute,
-) -> Option<RestRun>
-    requires early { first ≤ MINUTE_LIMIT }
-    ensures { IsSplitFound params first least full padded.now at result }
+pub(crate) fn split_run(history: &History<'_>, least: u32, full: u32, at: Minute) -> Option<RestRun>
+    requires early { history.now.scope.first ≤ MINUTE_LIMIT }
+    ensures { IsSplitFound history.now.scope.params history.now.scope.first least full history.now.padded.now at result }
 {
-    if !berth_of(params) {
+    if !berth_of(history.scope.params) {
         return None;
     }
-    for run in padded.rest_runs() {
+    for run in history.padded.rest_runs() {
         let length = run.to.saturating_sub(run.from);
-        if length >= least && length < full && is_minute_of(params, first, at, run.from) {
+        if length >= least
+            && length < full
+            && is_minute_of(history.scope.params, history.scope.first, at, run.from)
+        {
             return Some(*run);
         }
     }

@@ -4,32 +4,28 @@ ghost use Rattle.duty_core.specs.declared.limits.TheConstants.{MINUTE_LIMIT};
 ghost use Rattle.duty_core.specs.UsRules.{MeetsUsPair};
 ghost use Rattle.rule_readings.specs.Splits.{IsUsMark};
 
-use crate::padded::Padded;
+use crate::history::History;
 use crate::pairs::{PairBerth, PairTerms, are_paired, split_run};
-use duty_core::{
-    Mark, Marks, Minute, Params, US_FULL_REST, US_PAIR_BERTH, US_PAIR_LEAST, US_SPLIT_LEAST,
-};
+use duty_core::{Mark, US_FULL_REST, US_PAIR_BERTH, US_PAIR_LEAST, US_SPLIT_LEAST};
 
 /// Whether a mark names what it may in the United States: a rest run that may be split.
-fn names_split(padded: &Padded, params: Params, first: Minute, mark: Mark) -> bool
-    requires early { first ≤ MINUTE_LIMIT }
-    ensures { IsTrue result ↔ IsUsMark params first padded.now mark }
+fn names_split(history: &History<'_>, mark: Mark) -> bool
+    requires early { history.now.scope.first ≤ MINUTE_LIMIT }
+    ensures { IsTrue result ↔ IsUsMark history.now.scope.params history.now.scope.first history.now.padded.now mark }
 {
     match mark {
-        Mark::SplitRest { at } => {
-            split_run(padded, params, first, US_SPLIT_LEAST, US_FULL_REST, at).is_some()
-        }
+        Mark::SplitRest { at } => { split_run(history, US_SPLIT_LEAST, US_FULL_REST, at).is_some() }
         Mark::DeferDay { .. } => false,
     }
 }
 
 /// Whether the marks name rest runs that may be split, two by two.
-pub(crate) fn keeps_us_pair(padded: &Padded, params: Params, first: Minute, marks: &Marks) -> bool
-    requires early { first ≤ MINUTE_LIMIT }
-    ensures { IsTrue result ↔ MeetsUsPair params first padded.now marks.now }
+pub(crate) fn keeps_us_pair(history: &History<'_>) -> bool
+    requires early { history.now.scope.first ≤ MINUTE_LIMIT }
+    ensures { IsTrue result ↔ MeetsUsPair history.now.scope.params history.now.scope.first history.now.padded.now history.now.marks.now }
 {
-    for mark in marks.items() {
-        if !names_split(padded, params, first, *mark) {
+    for mark in history.marks.items() {
+        if !names_split(history, *mark) {
             return false;
         }
     }
@@ -40,5 +36,5 @@ pub(crate) fn keeps_us_pair(padded: &Padded, params: Params, first: Minute, mark
             least: US_PAIR_BERTH,
         },
     };
-    are_paired(padded, params, first, marks, terms)
+    are_paired(history, terms)
 }

@@ -18,7 +18,7 @@ loop-rule-preserved c =
     let scope = scope_of c.args.params c.args.first c.args.history.now c.args.planned_from in
     let Found = IsReadingFound scope (padded c.args.params c.args.history.now) marks in
     let found : Found rule c.reading_of.result =
-    subst (λ p. IsReadingFound scope p marks rule c.reading_of.result) c.in_ok-padded.ensures (subst (λ s. IsReadingFound s c.in_ok-padded.padded marks rule c.reading_of.result) c.scope_of-scope.ensures c.reading_of.ensures) in
+    subst (λ p. IsReadingFound scope p marks rule c.reading_of.result) c.in_ok-padded.ensures (subst (λ s. IsReadingFound s c.in_ok-padded.padded marks rule c.reading_of.result) c.scope_of.ensures c.reading_of.ensures) in
     let grown : AreReadingsOf Found (take i items ++ rule ∷ []) (c.loop-rule.readings ++ (rule, c.reading_of.result) ∷ []) = readings_more Found (take i items) c.loop-rule.readings rule c.reading_of.result c.loop-rule.invariant found in
     subst (λ rules. AreReadingsOf Found rules c.push.new.self) (sym more) (subst (λ readings. AreReadingsOf Found (take i items ++ rule ∷ []) readings) (sym c.in_ok-push.ensures.ok) grown)
 

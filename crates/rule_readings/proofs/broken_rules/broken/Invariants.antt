@@ -4,4 +4,4 @@ use Rattle.rule_readings.specs.Broken.{AreBroken}
 use Rattle.rule_readings.proofs.broken_rules.broken.Given as goal
 
 abbrev pub invariant-loop-rule : goal.invariant-loop-rule
-invariant-loop-rule l = AreBroken (Keeps l.params l.first l.history l.marks) (take l.rule-index l.rule-items) l.rules
+invariant-loop-rule l = AreBroken (Keeps l.fn.params l.first l.history l.marks) (take l.rule-index l.rule-items) l.rules

@@ -7,10 +7,10 @@ use Rattle.rule_readings.proofs.ca_pair.keeps_pair.Goals as goal
 
 pub returns-then-meets_split_marks : goal.returns-then-meets_split_marks
 returns-then-meets_split_marks c =
-    let params = c.args.params in
-    let first = c.args.first in
-    let p = c.args.padded.now in
-    let marks = c.args.marks.now in (
+    let params = c.args.history.now.scope.params in
+    let first = c.args.history.now.scope.first in
+    let p = c.args.history.now.padded.now in
+    let marks = c.args.history.now.marks.now in (
       λ t. meets_from params first p marks (subst (λ ms. (at : ℕ) → Contains ms (SplitRest at) → IsCaSplit params first p at) c.items.ensures (c.if-meets_split_marks.ensures.0 refl)) (c.are_paired.ensures.0 t),
       λ h. c.are_paired.ensures.1 (meets_pairs params first p marks h),
     )

@@ -5,4 +5,4 @@ use Rattle.rule_readings.specs.Splits.{MeetsSplitMark}
 use Rattle.rule_readings.proofs.ca_pair.meets_split_marks.Given as goal
 
 abbrev pub invariant-loop-mark : goal.invariant-loop-mark
-invariant-loop-mark l = (k : ℕ) (d : Mark) → k < l.mark-index → MeetsSplitMark l.params l.first l.padded (get_or l.marks k d)
+invariant-loop-mark l = (k : ℕ) (d : Mark) → k < l.mark-index → MeetsSplitMark l.history.scope.params l.history.scope.first l.history.padded.now (get_or l.marks k d)

@@ -6,7 +6,7 @@ use Rattle.rule_readings.proofs.declared.is_split_at.Goals as goal
 pub returns-in-Some : goal.returns-in-Some
 returns-in-Some c =
     let m = (c.in-Some.ensures c.in-Some.at).1 refl in
-    let s = split_found c.args.params c.args.first c.args.marks.now c.args.place c.in-Some.at m in
+    let s = split_found c.args.history.now.scope.params c.args.history.now.scope.first c.args.history.now.marks.now c.args.place c.in-Some.at m in
     let same = c.items.ensures in
     let f = c.has_split.ensures in (
       (λ e. s.0 (subst (λ marks. Contains marks (SplitRest c.in-Some.at)) same (f.0 e))),

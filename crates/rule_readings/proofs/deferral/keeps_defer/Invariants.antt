@@ -6,4 +6,4 @@ use Rattle.rule_readings.specs.Deferring.{MeetsMark}
 use Rattle.rule_readings.proofs.deferral.keeps_defer.Given as goal
 
 abbrev pub invariant-loop-mark : goal.invariant-loop-mark
-invariant-loop-mark l = (k : ℕ) (d : Mark) → k < l.mark-index → MeetsMark l.params (day_number l.params l.first) l.padded l.marks (get_or l.mark-items k d)
+invariant-loop-mark l = (k : ℕ) (d : Mark) → k < l.mark-index → MeetsMark l.history.scope.params (day_number l.history.scope.params l.history.scope.first) l.history.padded.now l.history.marks.now (get_or l.mark-items k d)

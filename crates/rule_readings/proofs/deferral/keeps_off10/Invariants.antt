@@ -6,4 +6,4 @@ use Rattle.duty_core.specs.Deferral.{MeetsCaOff10}
 use Rattle.rule_readings.proofs.deferral.keeps_off10.Given as goal
 
 abbrev pub invariant-loop-number : goal.invariant-loop-number
-invariant-loop-number l = (j : ℕ) → l.begin ≤ j → j < l.number → MeetsCaOff10 (day_number l.params l.first) l.padded (IsDeferred l.marks) j
+invariant-loop-number l = (j : ℕ) → l.begin ≤ j → j < l.number → MeetsCaOff10 (day_number l.history.scope.params l.history.scope.first) l.history.padded.now (IsDeferred l.history.marks.now) j

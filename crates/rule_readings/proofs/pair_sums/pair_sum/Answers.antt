@@ -8,9 +8,9 @@ use Rattle.rule_readings.proofs.pair_sums.pair_sum.Goals.{then-one-i-via-then-on
 
 pub returns-then-one-i : goal.returns-then-one-i
 returns-then-one-i c n h =
-    let Marked = IsSplitAt c.args.params c.args.first c.args.marks.now in
+    let Marked = IsSplitAt c.args.history.now.scope.params c.args.history.now.scope.first c.args.history.now.marks.now in
     let one = c.in_ok-one.one in
-    let e = first_is_split c.args.full c.args.padded.now Marked c.args.i h.to one.from one.to h.split c.in_ok-one.ensures in
+    let e = first_is_split c.args.full c.args.history.now.padded.now Marked c.args.i h.to one.from one.to h.split c.in_ok-one.ensures in
     let x = e.from in
     let y = e.to in
     let s = h.split.short in
@@ -21,8 +21,8 @@ returns-then-one-i c n h =
 
 pub returns-in_err-next : goal.returns-in_err-next
 returns-in_err-next c =
-    let p = c.args.padded.now in
-    let Marked = IsSplitAt c.args.params c.args.first c.args.marks.now in
+    let p = c.args.history.now.padded.now in
+    let Marked = IsSplitAt c.args.history.now.scope.params c.args.history.now.scope.first c.args.history.now.marks.now in
     let one = c.in_ok-one.one in
     subst (IsCount (IsPairSum c.args.full p Marked c.args.i)) (sym c.from_residual-in_err-next.ensures) (λ n h.
     let e = first_is_split c.args.full p Marked c.args.i h.to one.from one.to h.split c.in_ok-one.ensures in
@@ -35,5 +35,5 @@ pub returns : goal.returns
 returns c =
     let one = c.in_ok-one.one in
     let next = c.in_ok-next.next in
-    pair_of c.args.full c.args.padded.now (IsSplitAt c.args.params c.args.first c.args.marks.now) c.args.i one.from one.to next.from next.to c.if-one-i.false (let l = c.if-one-full.false in omega arith)
+    pair_of c.args.full c.args.history.now.padded.now (IsSplitAt c.args.history.now.scope.params c.args.history.now.scope.first c.args.history.now.marks.now) c.args.i one.from one.to next.from next.to c.if-one-i.false (let l = c.if-one-full.false in omega arith)
     c.in_ok-one.ensures c.in_ok-next.ensures

@@ -16,8 +16,8 @@ returns-then-not-pairs_with_last c = (
 pub loop-next-preserved : goal.loop-next-preserved
 loop-next-preserved c = λ k e l.
     let runs = c.rest_runs-next-items.result.now in
-    let Marked = IsSplitAt c.args.params c.args.first c.args.marks.now in
-    let Paired : RestRun → Type 0 = λ run. IsPairedRun c.args.terms.full (IsPair c.args.terms c.args.padded.now) c.args.padded.now Marked run.from run.to in
+    let Marked = IsSplitAt c.args.history.now.scope.params c.args.history.now.scope.first c.args.history.now.marks.now in
+    let Paired : RestRun → Type 0 = λ run. IsPairedRun c.args.terms.full (IsPair c.args.terms c.args.history.now.padded.now) c.args.history.now.padded.now Marked run.from run.to in
     elim (cases_eq k c.loop-next.next-index) [
       | inl q ↦
           let zero : RestRun = record { from = 0; to = 0 } in
@@ -28,7 +28,7 @@ loop-next-preserved c = λ k e l.
 
 pub returns : goal.returns
 returns c = (
-  (λ e. all_paired c.args.terms.full (IsPair c.args.terms c.args.padded.now) c.args.padded.now (IsSplitAt c.args.params c.args.first c.args.marks.now) c.rest_runs-next-items.result.now c.rest_runs-next-items.ensures.runs
+  (λ e. all_paired c.args.terms.full (IsPair c.args.terms c.args.history.now.padded.now) c.args.history.now.padded.now (IsSplitAt c.args.history.now.scope.params c.args.history.now.scope.first c.args.history.now.marks.now) c.rest_runs-next-items.result.now c.rest_runs-next-items.ensures.runs
       (λ k d l. c.loop-next.invariant k d (omega arith))),
   (λ h. refl),
 )

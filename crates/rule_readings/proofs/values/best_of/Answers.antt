@@ -10,10 +10,10 @@ use Rattle.rule_readings.proofs.values.best_of.Goals.{in-Some+then-beats, in-Som
 pub loop-i-preserved : goal.loop-i-preserved
 loop-i-preserved c =
     let order = c.order_of-order.result in
-    let Value = IsMeasured c.args.measure c.args.scope.now c.args.padded.now c.args.marks.now in
+    let Value = IsMeasured c.args.measure c.args.history.now.scope c.args.history.now.padded.now c.args.history.now.marks.now in
     let i = c.loop-i.i in
     let old = c.loop-i.best in
-    let one = one_value c.args.measure c.args.scope.now c.args.padded.now c.args.marks.now i in
+    let one = one_value c.args.measure c.args.history.now.scope c.args.history.now.padded.now c.args.history.now.marks.now i in
     elim c.match-value_at.branch [
       | in-Some+then-beats w ↦
           let used = w.in-Some.used in
@@ -28,8 +28,8 @@ loop-i-preserved c =
 
 pub returns : goal.returns
 returns c =
-    let Value = IsMeasured c.args.measure c.args.scope.now c.args.padded.now c.args.marks.now in
+    let Value = IsMeasured c.args.measure c.args.history.now.scope c.args.history.now.padded.now c.args.history.now.marks.now in
     let i = c.loop-i.i in
     let l = c.len-i-end.ensures.value in
     subst (λ order. IsBestFound order Value c.loop-i.best) c.order_of-order.ensures
-    (best_all c.order_of-order.result Value i c.loop-i.best (λ k n v. let m = all_inside c.args.measure c.args.scope.now c.args.padded.now c.args.marks.now c.requires.scope k n v in omega arith) c.loop-i.invariant)
+    (best_all c.order_of-order.result Value i c.loop-i.best (λ k n v. let m = all_inside c.args.measure c.args.history.now.scope c.args.history.now.padded.now c.args.history.now.marks.now c.requires.scope k n v in omega arith) c.loop-i.invariant)

@@ -5,4 +5,4 @@ use Rattle.rule_readings.proofs.BestLoop.{IsBelow}
 use Rattle.rule_readings.proofs.values.best_of.Given as goal
 
 abbrev pub invariant-loop-i : goal.invariant-loop-i
-invariant-loop-i l = IsBestFound l.order (IsBelow (IsMeasured l.measure l.scope l.padded l.marks) l.i) l.best
+invariant-loop-i l = IsBestFound l.order (IsBelow (IsMeasured l.measure l.history.scope l.history.padded.now l.history.marks.now) l.i) l.best
