@@ -11,6 +11,7 @@ use Rattle.duty_core.specs.Laws.UniqueLaws.{base_unique, omitted_unique, last_br
 use Rattle.rule_readings.specs.declared.measure.Since.{Since}
 use Rattle.rule_readings.specs.declared.measure.Since.TheVariants.{Base, Break, Day, Days, Rest}
 use Rattle.rule_readings.specs.declared.measure.Amount.{Amount}
+use Rattle.rule_readings.specs.declared.base.Base as base
 use Rattle.rule_readings.specs.declared.scope.Span.{Span}
 use Rattle.rule_readings.specs.BaseFound.{IsBaseFound, whole}
 use Rattle.rule_readings.specs.EndFound.{IsEndFound}
@@ -53,6 +54,11 @@ break_found p i (Some b) h = (h, refl)
 pub rest_found : (least : ℕ) (p : List Activity) (i : ℕ) (found : Option ℕ) → IsEndFound least p i found → IsBaseFound (λ b u. IsLastEnd least p i b × (u ≡ 0)) (whole found)
 rest_found least p i None h = λ b u x. h x.0.from b x.0.rest x.0.before
 rest_found least p i (Some b) h = (h, refl)
+
+-- what is found from one place is found from any that is the same
+pub found_as : (since other : Since) (day : ℕ → ℕ) (p : List Activity) (Marked : ℕ → Type 0) (i : ℕ) (found : Option ℕ) (result : Option base.Base) → since ≡ other → result ≡ whole found → IsBaseFound (CountsFrom other day p Marked i) (whole found) →
+    IsBaseFound (CountsFrom since day p Marked i) result
+found_as since other day p Marked i found result e q h = subst (λ s. IsBaseFound (CountsFrom s day p Marked i) result) (sym e) (subst (IsBaseFound (CountsFrom other day p Marked i)) (sym q) h)
 
 -- # Counts
 

@@ -7,6 +7,7 @@ pub mod Count
 pub mod CaHistory
 pub mod CaDays
 pub mod Lost
+pub mod Histories
 pub mod Deferring
 pub mod Splits
 pub mod AuCounts

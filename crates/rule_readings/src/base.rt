@@ -2,8 +2,8 @@
 ghost use Rattle.std.specs.Prelude.{◌≤◌};
 ghost use Rattle.duty_core.specs.declared.limits.TheConstants.{MINUTE_LIMIT};
 ghost use Rattle.duty_core.specs.Base.{IsBase};
-ghost use Rattle.duty_core.specs.Marks.{IsSplitAt};
 ghost use Rattle.rule_readings.specs.BaseFound.{IsBaseFound};
+ghost use Rattle.rule_readings.specs.Histories.{IsMarkedIn};
 
 use crate::declared::last_declared;
 use crate::history::History;
@@ -20,7 +20,7 @@ pub(crate) struct Base {
 /// none.
 pub(crate) fn base_at(history: &History<'_>, full: u32, i: u32) -> Option<Base>
     requires early { history.now.scope.first ≤ MINUTE_LIMIT }
-    ensures { IsBaseFound (IsBase full history.now.padded.now (IsSplitAt history.now.scope.params history.now.scope.first history.now.marks.now) i) result }
+    ensures { IsBaseFound (IsBase full history.now.padded.now (IsMarkedIn history.now) i) result }
 {
     let last = last_declared(history, full, i)?;
     let rest = last.to - last.from;

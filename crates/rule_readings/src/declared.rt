@@ -4,9 +4,10 @@ ghost use Rattle.std.specs.List.Sorted.{IsNonDecreasingBy, IsPartitionPoint};
 ghost use Rattle.duty_core.specs.declared.mark.Mark.TheVariants.{SplitRest};
 ghost use Rattle.duty_core.specs.declared.limits.TheConstants.{MINUTE_LIMIT, PADDING_MINUTES};
 ghost use Rattle.duty_core.specs.Params.{unit_minutes};
-ghost use Rattle.duty_core.specs.Marks.{IsMinuteOf, IsSplitAt};
+ghost use Rattle.duty_core.specs.Marks.{IsMinuteOf};
 ghost use Rattle.rule_readings.specs.declared.padded.TheConstants.{LONGEST_PADDED};
 ghost use Rattle.rule_readings.specs.Found.{DeclaresRun, IsLastFound, IsFirstFound};
+ghost use Rattle.rule_readings.specs.Histories.{IsMarkedIn};
 
 use crate::history::History;
 use crate::padded::RestRun;
@@ -58,7 +59,7 @@ fn has_split(marks: &[Mark], at: Minute) -> bool
 pub(crate) fn is_split_at(history: &History<'_>, place: u32) -> bool
     requires early { history.now.scope.first ≤ MINUTE_LIMIT }
     requires inside { place ≤ LONGEST_PADDED }
-    ensures { IsTrue result ↔ IsSplitAt history.now.scope.params history.now.scope.first history.now.marks.now place }
+    ensures { IsTrue result ↔ IsMarkedIn history.now place }
 {
     match minute_of(history.scope.params, history.scope.first, place) {
         Some(at) => has_split(history.marks.items(), at),
@@ -71,7 +72,7 @@ pub(crate) fn is_declared(history: &History<'_>, full: u32, run: RestRun) -> boo
     requires early { history.now.scope.first ≤ MINUTE_LIMIT }
     requires inside { run.from ≤ LONGEST_PADDED }
     requires order { run.from ≤ run.to }
-    ensures { IsTrue result ↔ DeclaresRun full (IsSplitAt history.now.scope.params history.now.scope.first history.now.marks.now) run.from run.to }
+    ensures { IsTrue result ↔ DeclaresRun full (IsMarkedIn history.now) run.from run.to }
 {
     run.to - run.from >= full || is_split_at(history, run.from)
 }
@@ -88,7 +89,7 @@ pub(crate) fn ended_by(runs: &[RestRun], i: u32) -> usize
 /// The last declared rest that has ended at place `i` or before. `None` where there is none.
 pub(crate) fn last_declared(history: &History<'_>, full: u32, i: u32) -> Option<RestRun>
     requires early { history.now.scope.first ≤ MINUTE_LIMIT }
-    ensures { IsLastFound full history.now.padded.now (IsSplitAt history.now.scope.params history.now.scope.first history.now.marks.now) i result }
+    ensures { IsLastFound full history.now.padded.now (IsMarkedIn history.now) i result }
 {
     let runs = history.padded.rest_runs();
     let mut rest = ended_by(runs, i);
@@ -105,7 +106,7 @@ pub(crate) fn last_declared(history: &History<'_>, full: u32, i: u32) -> Option<
 /// The first declared rest that ends after place `i`. `None` where there is none.
 pub(crate) fn next_declared(history: &History<'_>, full: u32, i: u32) -> Option<RestRun>
     requires early { history.now.scope.first ≤ MINUTE_LIMIT }
-    ensures { IsFirstFound full history.now.padded.now (IsSplitAt history.now.scope.params history.now.scope.first history.now.marks.now) i result }
+    ensures { IsFirstFound full history.now.padded.now (IsMarkedIn history.now) i result }
 {
     let runs = history.padded.rest_runs();
     for next in ended_by(runs, i)..runs.len() {

@@ -10,6 +10,7 @@ ghost use Rattle.rule_readings.specs.declared.ca_day.TheConstants.{DAY_LIMIT};
 ghost use Rattle.rule_readings.specs.declared.deferral.TheConstants.{DAY_ZERO};
 ghost use Rattle.rule_readings.specs.Lost.{AreLostCounts};
 ghost use Rattle.rule_readings.specs.Deferring.{IsOpenRest, HasRunIn, DefersDay, MeetsMark};
+ghost use Rattle.rule_readings.specs.Histories.{day_in};
 
 use crate::book::is_defer_way;
 use crate::ca_day::{DAY_LIMIT, day_begin, day_of};
@@ -86,7 +87,7 @@ fn meets_off10(history: &History<'_>, number: u32) -> bool
     requires counts { AreLostCounts history.now.padded.now history.now.lost.now }
     requires minutes { IsByMinutes history.now.scope.params history.now.scope.first }
     requires small { number ≤ DAY_LIMIT }
-    ensures { IsTrue result ↔ MeetsCaOff10 (day_number history.now.scope.params history.now.scope.first) history.now.padded.now (IsDeferred history.now.marks.now) number }
+    ensures { IsTrue result ↔ MeetsCaOff10 (day_in history.now) history.now.padded.now (IsDeferred history.now.marks.now) number }
 {
     history.lost_in(number) <= CA_LOST_LIMIT || is_in_deferral(history.marks, number)
 }
@@ -95,7 +96,7 @@ fn meets_off10(history: &History<'_>, number: u32) -> bool
 pub(crate) fn keeps_off10(history: &History<'_>) -> bool
     requires counts { AreLostCounts history.now.padded.now history.now.lost.now }
     requires minutes { IsByMinutes history.now.scope.params history.now.scope.first }
-    ensures { IsTrue result ↔ ((j : ℕ) → MeetsCaOff10 (day_number history.now.scope.params history.now.scope.first) history.now.padded.now (IsDeferred history.now.marks.now) j) }
+    ensures { IsTrue result ↔ ((j : ℕ) → MeetsCaOff10 (day_in history.now) history.now.padded.now (IsDeferred history.now.marks.now) j) }
 {
     let params = history.scope.params;
     let first = history.scope.first;
@@ -157,7 +158,7 @@ fn has_rest_in(padded: &Padded, params: Params, first: Minute, least: u32, numbe
 pub(crate) fn is_deferral(history: &History<'_>, number: u32) -> bool
     requires counts { AreLostCounts history.now.padded.now history.now.lost.now }
     requires minutes { IsByMinutes history.now.scope.params history.now.scope.first }
-    ensures { IsTrue result ↔ IsDeferral (day_number history.now.scope.params history.now.scope.first) history.now.padded.now number }
+    ensures { IsTrue result ↔ IsDeferral (day_in history.now) history.now.padded.now number }
 {
     let _places = history.padded.len();
     if number >= DAY_LIMIT {
@@ -183,7 +184,7 @@ pub(crate) fn is_deferral(history: &History<'_>, number: u32) -> bool
 fn meets_day(history: &History<'_>, day: Day) -> bool
     requires counts { AreLostCounts history.now.padded.now history.now.lost.now }
     requires minutes { IsByMinutes history.now.scope.params history.now.scope.first }
-    ensures { IsTrue result ↔ IsCaDeferral history.now.scope.params (day_number history.now.scope.params history.now.scope.first) history.now.padded.now history.now.marks.now day }
+    ensures { IsTrue result ↔ IsCaDeferral history.now.scope.params (day_in history.now) history.now.padded.now history.now.marks.now day }
 {
     match number_of(day) {
         Some(number) => {
@@ -199,7 +200,7 @@ fn meets_day(history: &History<'_>, day: Day) -> bool
 fn meets_mark(history: &History<'_>, mark: Mark) -> bool
     requires counts { AreLostCounts history.now.padded.now history.now.lost.now }
     requires minutes { IsByMinutes history.now.scope.params history.now.scope.first }
-    ensures { IsTrue result ↔ MeetsMark history.now.scope.params (day_number history.now.scope.params history.now.scope.first) history.now.padded.now history.now.marks.now mark }
+    ensures { IsTrue result ↔ MeetsMark history.now.scope.params (day_in history.now) history.now.padded.now history.now.marks.now mark }
 {
     match mark {
         Mark::DeferDay { day } => meets_day(history, day),
@@ -211,7 +212,7 @@ fn meets_mark(history: &History<'_>, mark: Mark) -> bool
 pub(crate) fn keeps_defer(history: &History<'_>) -> bool
     requires counts { AreLostCounts history.now.padded.now history.now.lost.now }
     requires minutes { IsByMinutes history.now.scope.params history.now.scope.first }
-    ensures { IsTrue result ↔ MeetsCaDefer history.now.scope.params (day_number history.now.scope.params history.now.scope.first) history.now.padded.now history.now.marks.now }
+    ensures { IsTrue result ↔ MeetsCaDefer history.now.scope.params (day_in history.now) history.now.padded.now history.now.marks.now }
 {
     for mark in history.marks.items() {
         if !meets_mark(history, *mark) {

@@ -1,12 +1,11 @@
 //! What rules count at units of driving.
 ghost use Rattle.std.specs.Prelude.{◌≡◌, ◌≤◌, ◌<◌, IfSome, length};
 ghost use Rattle.duty_core.specs.declared.limits.TheConstants.{MINUTE_LIMIT};
-ghost use Rattle.duty_core.specs.Day.{day_number};
-ghost use Rattle.duty_core.specs.Marks.{IsSplitAt};
 ghost use Rattle.rule_readings.specs.BaseFound.{IsBaseFound, whole};
 ghost use Rattle.rule_readings.specs.Count.{IsCount};
 ghost use Rattle.rule_readings.specs.Counts.{HasDays, CountsFrom, amount_of, IsCountAt};
 ghost use Rattle.rule_readings.specs.Values.{IsPlannedCount};
+ghost use Rattle.rule_readings.specs.Histories.{IsMarkedIn, day_in};
 
 use crate::base::{Base, base_at};
 use crate::breaks::last_break;
@@ -32,8 +31,8 @@ fn base_since(history: &History<'_>, since: Since, i: u32) -> Option<Base>
     requires days { HasDays since }
     requires inside { i < length history.now.padded.now }
     ensures found { IsBaseFound
-        (CountsFrom since (day_number history.now.scope.params history.now.scope.first) history.now.padded.now
-        (IsSplitAt history.now.scope.params history.now.scope.first history.now.marks.now) i)
+        (CountsFrom since (day_in history.now) history.now.padded.now
+        (IsMarkedIn history.now) i)
         result }
     ensures before { IfSome result (λ at. at.base ≤ i) }
 {
@@ -80,8 +79,8 @@ pub(crate) fn planned_count(
     requires inside { i < length history.now.padded.now }
     ensures { IsCount
         (IsPlannedCount history.now.scope.planned
-        (IsCountAt amount since (day_number history.now.scope.params history.now.scope.first) history.now.padded.now
-        (IsSplitAt history.now.scope.params history.now.scope.first history.now.marks.now))
+        (IsCountAt amount since (day_in history.now) history.now.padded.now
+        (IsMarkedIn history.now))
         i)
         result }
 {

@@ -7,6 +7,7 @@ ghost use Rattle.rule_readings.specs.CaHistory.{IsByMinutes};
 ghost use Rattle.rule_readings.specs.Count.{IsCount};
 ghost use Rattle.rule_readings.specs.Lost.{AreLostCounts};
 ghost use Rattle.rule_readings.specs.Values.{BeginsDayOf, IsLoss, IsDeferredLoss};
+ghost use Rattle.rule_readings.specs.Histories.{day_in};
 
 use crate::ca_day::{day_begin, day_of};
 use crate::deferral::{is_deferred, is_in_deferral};
@@ -31,7 +32,7 @@ pub(crate) fn loss(history: &History<'_>, i: u32) -> Option<u32>
     requires minutes { IsByMinutes history.now.scope.params history.now.scope.first }
     requires inside { i < length history.now.padded.now }
     ensures { IsCount
-        (IsLoss history.now.scope.planned (day_number history.now.scope.params history.now.scope.first) history.now.padded.now (IsDeferred history.now.marks.now) i)
+        (IsLoss history.now.scope.planned (day_in history.now) history.now.padded.now (IsDeferred history.now.marks.now) i)
         result }
 {
     let _places = history.padded.len();
@@ -50,7 +51,7 @@ pub(crate) fn deferred_loss(history: &History<'_>, i: u32) -> Option<u32>
     requires minutes { IsByMinutes history.now.scope.params history.now.scope.first }
     requires inside { i < length history.now.padded.now }
     ensures { IsCount
-        (IsDeferredLoss history.now.scope.history (day_number history.now.scope.params history.now.scope.first) history.now.padded.now (IsDeferred history.now.marks.now) i)
+        (IsDeferredLoss history.now.scope.history (day_in history.now) history.now.padded.now (IsDeferred history.now.marks.now) i)
         result }
 {
     let _places = history.padded.len();

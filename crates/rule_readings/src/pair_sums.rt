@@ -1,9 +1,9 @@
 //! How long split rests and their pairs are together.
 ghost use Rattle.std.specs.Prelude.{◌<◌, ◌≤◌, length};
 ghost use Rattle.duty_core.specs.declared.limits.TheConstants.{MINUTE_LIMIT};
-ghost use Rattle.duty_core.specs.Marks.{IsSplitAt};
 ghost use Rattle.rule_readings.specs.Count.{IsCount};
 ghost use Rattle.rule_readings.specs.Values.{IsPairSum};
+ghost use Rattle.rule_readings.specs.Histories.{IsMarkedIn};
 
 use crate::declared::{is_split_at, next_declared};
 use crate::history::History;
@@ -13,7 +13,7 @@ use crate::history::History;
 pub(crate) fn pair_sum(history: &History<'_>, full: u32, i: u32) -> Option<u32>
     requires early { history.now.scope.first ≤ MINUTE_LIMIT }
     requires inside { i < length history.now.padded.now }
-    ensures { IsCount (IsPairSum full history.now.padded.now (IsSplitAt history.now.scope.params history.now.scope.first history.now.marks.now) i) result }
+    ensures { IsCount (IsPairSum full history.now.padded.now (IsMarkedIn history.now) i) result }
 {
     let _places = history.padded.len();
     if !is_split_at(history, i) {

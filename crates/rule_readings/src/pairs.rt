@@ -3,11 +3,12 @@ ghost use Rattle.std.specs.Prelude.{◌≡◌, ℕ, ◌≤◌, ◌↔◌, IsTrue
 ghost use Rattle.duty_core.specs.declared.activity.Activity.TheVariants.{Berth};
 ghost use Rattle.duty_core.specs.declared.limits.TheConstants.{MINUTE_LIMIT};
 ghost use Rattle.duty_core.specs.Stretch.{HoldsBerth, IsBerth};
-ghost use Rattle.duty_core.specs.Marks.{IsMinuteOf, IsSplitAt};
+ghost use Rattle.duty_core.specs.Marks.{IsMinuteOf};
 ghost use Rattle.duty_core.specs.RestRun.{IsRun};
 ghost use Rattle.duty_core.specs.DeclaredRest.{ArePairedAt};
 ghost use Rattle.rule_readings.specs.declared.padded.TheConstants.{LONGEST_PADDED};
 ghost use Rattle.rule_readings.specs.Pairs.{IsPair, IsPairedRun, IsSplitFound};
+ghost use Rattle.rule_readings.specs.Histories.{IsMarkedIn};
 
 use crate::book::berth_of;
 use crate::declared::{is_declared, last_declared, minute_of};
@@ -94,7 +95,7 @@ fn pairs_with_last(history: &History<'_>, terms: PairTerms, next: RestRun) -> bo
     requires run { IsRun history.now.padded.now next.from next.to }
     requires bound { length history.now.padded.now ≤ LONGEST_PADDED }
     ensures { IsTrue result
-        ↔ IsPairedRun terms.full (IsPair terms history.now.padded.now) history.now.padded.now (IsSplitAt history.now.scope.params history.now.scope.first history.now.marks.now) next.from next.to }
+        ↔ IsPairedRun terms.full (IsPair terms history.now.padded.now) history.now.padded.now (IsMarkedIn history.now) next.from next.to }
 {
     if !is_declared(history, terms.full, next) {
         return true;
@@ -112,7 +113,7 @@ fn pairs_with_last(history: &History<'_>, terms: PairTerms, next: RestRun) -> bo
 pub(crate) fn are_paired(history: &History<'_>, terms: PairTerms) -> bool
     requires early { history.now.scope.first ≤ MINUTE_LIMIT }
     ensures { IsTrue result
-        ↔ ((d : ℕ) → ArePairedAt terms.full (IsPair terms history.now.padded.now) history.now.padded.now (IsSplitAt history.now.scope.params history.now.scope.first history.now.marks.now) d) }
+        ↔ ((d : ℕ) → ArePairedAt terms.full (IsPair terms history.now.padded.now) history.now.padded.now (IsMarkedIn history.now) d) }
 {
     for next in history.padded.rest_runs() {
         if !pairs_with_last(history, terms, *next) {
