@@ -1,5 +1,5 @@
 use Rattle.std.proofs.Common.{refl}
-use Rattle.us_rules.proofs.tests.rested_and_drove.Goals as goal
+use Rattle.rule_books.proofs.us_tests.rested_and_drove.Goals as goal
 
 -- each minute is a unit
 pub root-requires-clause-begins : goal.root-requires-clause-begins

@@ -1,5 +1,5 @@
 use Rattle.std.proofs.Common.{refl}
-use Rattle.us_rules.proofs.tests.covers_where_less_is_driven.Goals as goal
+use Rattle.rule_books.proofs.us_tests.covers_where_less_is_driven.Goals as goal
 
 -- each minute is a unit
 pub root-requires-clause-begins : goal.root-requires-clause-begins

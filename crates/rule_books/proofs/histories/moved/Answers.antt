@@ -4,7 +4,7 @@ use Rattle.duty_core.specs.Params.{unit_minutes}
 use Rattle.rule_core.specs.Reach.{IsOneOf}
 use Rattle.rule_core.specs.Laws.ListedLaws.{first_listed, last_listed}
 use Rattle.rule_core.specs.Laws.ReachLaws.{equal_units_state}
-use Rattle.us_rules.proofs.tests.moved.Goals as goal
+use Rattle.rule_books.proofs.histories.moved.Goals as goal
 
 -- what an advance gives is reached, and so is a state
 pub returns-in-Some : goal.returns-in-Some

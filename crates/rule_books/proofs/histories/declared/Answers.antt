@@ -1,7 +1,7 @@
 use Rattle.std.proofs.Common.{◌≡◌, Some}
 use Rattle.rule_core.specs.Reach.{IsOneOf}
 use Rattle.rule_core.specs.Laws.ListedLaws.{middle_listed}
-use Rattle.us_rules.proofs.tests.declared.Goals as goal
+use Rattle.rule_books.proofs.histories.declared.Goals as goal
 
 -- a successor is a state
 pub returns-in-Some : goal.returns-in-Some
