@@ -1,0 +1,4 @@
+pub mod BeginLaws
+pub mod SoonerLaws
+pub mod TableLaws
+pub mod WalkLaws

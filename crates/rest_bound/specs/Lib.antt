@@ -1,0 +1,6 @@
+pub mod Ends
+pub mod CanEnd
+pub mod Runs
+pub mod Order
+pub mod Table
+pub mod Laws
