@@ -154,6 +154,10 @@ impl RuleBook for HvnlBook {
         )
     }
 
+    fn rank(&self, state: &HvnlState) -> u32 {
+        held::rank(state.held.limits())
+    }
+
     fn write_state(
         &self,
         state: &HvnlState,

@@ -189,3 +189,12 @@ pub fn least_rest(limits: &[Limit], duty: u32) -> u32
     }
     rest
 }
+
+/// The rest units that each limit keeps, added up: the fewer, the more may still be worked.
+pub fn rank(limits: &[Limit]) -> u32 {
+    let mut kept: u32 = 0;
+    for limit in limits {
+        kept = kept.saturating_add(limit.units.saturating_sub(limit.duty));
+    }
+    kept
+}

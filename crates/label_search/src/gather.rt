@@ -87,7 +87,7 @@ pub fn gather<B: RuleBook>(
         let label = &kept.label;
         gather_from(alloc, book, tour, limit, Parent { place, label }, &mut list)?;
     }
-    put_in_order(&mut list)?;
+    put_in_order(book, &mut list)?;
     Ok(list)
 }
 

@@ -112,6 +112,15 @@ pub trait RuleBook {
         0
     }
 
+    /// How much the state asks, roughly: of labels that are alike but for their states a search
+    /// offers those first whose states have the lower ranks, since these are likelier to stand for
+    /// the others.
+    ///
+    /// Nothing that a search answers rests on it: a book that says nothing answers 0.
+    fn rank(&self, _state: &Self::State) -> u32 {
+        0
+    }
+
     /// Puts the state's numbers at the minute `at` after the others. Where there is no memory for
     /// them, the others stay as they were.
     fn write_state(
