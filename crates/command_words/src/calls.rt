@@ -4,8 +4,8 @@ ghost use Rattle.report_text.specs.declared.maker.TheConstants.{MOST_MADE};
 ghost use Rattle.clap.specs.Words.{app_of, rule_of, with_rule};
 ghost use Rattle.command_words.specs.Calls.{place, number_place, budget_option, call, plan_call, check_call, audit_call, graph_call, make_call};
 
-use clap::{Arg, ArgAction, Command, value_parser};
 use cert_text::MOST_LABELS;
+use clap::{Arg, ArgAction, Command, value_parser};
 use report_text::MOST_MADE;
 use std::alloc::{AllocError, Global};
 
