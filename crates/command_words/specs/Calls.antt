@@ -4,6 +4,8 @@ use Rattle.clap.specs.Walk.{Rule, Text}
 use Rattle.clap.specs.Simple.{App, new_rule, new_shape}
 use Rattle.clap.specs.declared.builder.action.ArgAction.TheVariants.{Set}
 use Rattle.clap.specs.declared.builder.value_parser.ValueParser.TheVariants.{Unsigned}
+use Rattle.command_words.specs.declared.calls.Verb.{Verb}
+use Rattle.command_words.specs.declared.calls.Verb.TheVariants.{Plan, Check, Audit, Graph, Make}
 use Rattle.cert_text.specs.declared.text.limits.TheConstants.{MOST_LABELS}
 use Rattle.report_text.specs.declared.maker.TheConstants.{MOST_MADE}
 
@@ -45,6 +47,14 @@ graph_call = call (codes "graph") (place (codes "tour") ∷ place (codes "log") 
 
 abbrev pub make_call : App
 make_call = call (codes "make") (number_place (codes "number") MOST_MADE ∷ place (codes "tour") ∷ place (codes "log") ∷ [])
+
+-- what `clap` is told of the command of this name
+abbrev pub call_of : Verb → App
+call_of Plan = plan_call
+call_of Check = check_call
+call_of Audit = audit_call
+call_of Graph = graph_call
+call_of Make = make_call
 
 abbrev pub calls : List App
 calls = plan_call ∷ check_call ∷ audit_call ∷ graph_call ∷ make_call ∷ []

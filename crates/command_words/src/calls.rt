@@ -2,12 +2,22 @@
 ghost use Rattle.std.specs.Prelude.{◌≡◌, [], false, codes, IfOk};
 ghost use Rattle.report_text.specs.declared.maker.TheConstants.{MOST_MADE};
 ghost use Rattle.clap.specs.Words.{app_of, rule_of, with_rule};
-ghost use Rattle.command_words.specs.Calls.{place, number_place, budget_option, call, plan_call, check_call, audit_call, graph_call, make_call};
+ghost use Rattle.command_words.specs.Calls.{place, number_place, budget_option, call, call_of};
 
 use cert_text::MOST_LABELS;
 use clap::{Arg, ArgAction, Command, value_parser};
 use report_text::MOST_MADE;
 use std::alloc::{AllocError, Global};
+
+/// The commands, by their names.
+#[derive(Clone, Copy)]
+pub(crate) enum Verb {
+    Plan,
+    Check,
+    Audit,
+    Graph,
+    Make,
+}
 
 /// A word that has to be there, in its place.
 fn place<'a>(alloc: Global, id: &'a str) -> Arg<'a>
@@ -54,40 +64,17 @@ fn with_names<'a>(alloc: Global, call: Command<'a>) -> Result<Command<'a>, Alloc
     call.arg(place(alloc, "tour"))?.arg(place(alloc, "log"))
 }
 
-/// What `plan` is told by.
-pub(crate) fn plan_call<'a>(alloc: Global) -> Result<Command<'a>, AllocError>
-    ensures { IfOk result (λ call. app_of call ≡ plan_call) }
+/// What `clap` is told of this command.
+pub(crate) fn call_of<'a>(alloc: Global, verb: Verb) -> Result<Command<'a>, AllocError>
+    ensures { IfOk result (λ call. app_of call ≡ call_of verb) }
 {
-    with_names(alloc, call(alloc, "plan"))?
-        .arg(place(alloc, "cert"))?
-        .arg(budget_option(alloc))
-}
-
-/// What `check` is told by.
-pub(crate) fn check_call<'a>(alloc: Global) -> Result<Command<'a>, AllocError>
-    ensures { IfOk result (λ call. app_of call ≡ check_call) }
-{
-    with_names(alloc, call(alloc, "check"))?.arg(place(alloc, "cert"))
-}
-
-/// What `audit` is told by.
-pub(crate) fn audit_call<'a>(alloc: Global) -> Result<Command<'a>, AllocError>
-    ensures { IfOk result (λ call. app_of call ≡ audit_call) }
-{
-    with_names(alloc, call(alloc, "audit"))
-}
-
-/// What `graph` is told by.
-pub(crate) fn graph_call<'a>(alloc: Global) -> Result<Command<'a>, AllocError>
-    ensures { IfOk result (λ call. app_of call ≡ graph_call) }
-{
-    with_names(alloc, call(alloc, "graph"))
-}
-
-/// What `make` is told by.
-pub(crate) fn make_call<'a>(alloc: Global) -> Result<Command<'a>, AllocError>
-    ensures { IfOk result (λ call. app_of call ≡ make_call) }
-{
-    let numbered = call(alloc, "make").arg(number_place(alloc))?;
-    with_names(alloc, numbered)
+    match verb {
+        Verb::Plan => with_names(alloc, call(alloc, "plan"))?
+            .arg(place(alloc, "cert"))?
+            .arg(budget_option(alloc)),
+        Verb::Check => with_names(alloc, call(alloc, "check"))?.arg(place(alloc, "cert")),
+        Verb::Audit => with_names(alloc, call(alloc, "audit")),
+        Verb::Graph => with_names(alloc, call(alloc, "graph")),
+        Verb::Make => with_names(alloc, call(alloc, "make").arg(number_place(alloc))?),
+    }
 }

@@ -1,9 +1,9 @@
 //! The commands, and how they are read.
-ghost use Rattle.std.specs.Prelude.{◌≡◌, Some, codes, map, slice_get, IfOk, IfNone, IfSome, MatchOption};
-ghost use Rattle.command_words.specs.Calls.{plan_call, check_call, audit_call, graph_call, make_call};
+ghost use Rattle.std.specs.Prelude.{◌≡◌, Some, map, slice_get, IfOk, IfNone, IfSome, MatchOption};
+ghost use Rattle.command_words.specs.Calls.{call_of};
 ghost use Rattle.command_words.specs.Command.{Takes, IsCommandLine, IsNoCommandLine, AreRefused, HasBudget};
 
-use crate::calls;
+use crate::calls::{self, Verb};
 use crate::matched::{number_of, parse, word_of};
 use duty_core::NoMemory;
 use outside::Word;
@@ -47,83 +47,39 @@ pub enum Command {
     },
 }
 
-/// `plan` with the words after it.
-fn plan_of(alloc: Global, words: &[&str]) -> Result<Option<Command>, NoMemory>
-    requires { slice_get (map (λ w. w.now) words.now) 0 ≡ Some (codes "plan") }
-    ensures { IfOk result (λ read. MatchOption read (Takes plan_call (map (λ w. w.now) words.now) → ⊥) (IsCommandLine (map (λ w. w.now) words.now))) }
+/// The command of this name with the words after it.
+fn command_by(alloc: Global, verb: Verb, words: &[&str]) -> Result<Option<Command>, NoMemory>
+    requires { slice_get (map (λ w. w.now) words.now) 0 ≡ Some (call_of verb).top.name }
+    ensures { IfOk result (λ read. MatchOption read (Takes (call_of verb) (map (λ w. w.now) words.now) → ⊥) (IsCommandLine (map (λ w. w.now) words.now))) }
 {
-    let call = calls::plan_call(alloc)?;
+    let call = calls::call_of(alloc, verb)?;
     let Some(matches) = parse(call, words)? else {
         return Ok(None);
     };
-    Ok(Some(Command::Plan {
-        tour: word_of(alloc, &matches, "tour")?,
-        log: word_of(alloc, &matches, "log")?,
-        cert: word_of(alloc, &matches, "cert")?,
-        budget: number_of(&matches, "budget"),
-    }))
-}
-
-/// `check` with the words after it.
-fn check_of(alloc: Global, words: &[&str]) -> Result<Option<Command>, NoMemory>
-    requires { slice_get (map (λ w. w.now) words.now) 0 ≡ Some (codes "check") }
-    ensures { IfOk result (λ read. MatchOption read (Takes check_call (map (λ w. w.now) words.now) → ⊥) (IsCommandLine (map (λ w. w.now) words.now))) }
-{
-    let call = calls::check_call(alloc)?;
-    let Some(matches) = parse(call, words)? else {
-        return Ok(None);
-    };
-    Ok(Some(Command::Check {
-        tour: word_of(alloc, &matches, "tour")?,
-        log: word_of(alloc, &matches, "log")?,
-        cert: word_of(alloc, &matches, "cert")?,
-    }))
-}
-
-/// `audit` with the words after it.
-fn audit_of(alloc: Global, words: &[&str]) -> Result<Option<Command>, NoMemory>
-    requires { slice_get (map (λ w. w.now) words.now) 0 ≡ Some (codes "audit") }
-    ensures { IfOk result (λ read. MatchOption read (Takes audit_call (map (λ w. w.now) words.now) → ⊥) (IsCommandLine (map (λ w. w.now) words.now))) }
-{
-    let call = calls::audit_call(alloc)?;
-    let Some(matches) = parse(call, words)? else {
-        return Ok(None);
-    };
-    Ok(Some(Command::Audit {
-        tour: word_of(alloc, &matches, "tour")?,
-        log: word_of(alloc, &matches, "log")?,
-    }))
-}
-
-/// `graph` with the words after it.
-fn graph_of(alloc: Global, words: &[&str]) -> Result<Option<Command>, NoMemory>
-    requires { slice_get (map (λ w. w.now) words.now) 0 ≡ Some (codes "graph") }
-    ensures { IfOk result (λ read. MatchOption read (Takes graph_call (map (λ w. w.now) words.now) → ⊥) (IsCommandLine (map (λ w. w.now) words.now))) }
-{
-    let call = calls::graph_call(alloc)?;
-    let Some(matches) = parse(call, words)? else {
-        return Ok(None);
-    };
-    Ok(Some(Command::Graph {
-        tour: word_of(alloc, &matches, "tour")?,
-        log: word_of(alloc, &matches, "log")?,
-    }))
-}
-
-/// `make` with the words after it.
-fn make_of(alloc: Global, words: &[&str]) -> Result<Option<Command>, NoMemory>
-    requires { slice_get (map (λ w. w.now) words.now) 0 ≡ Some (codes "make") }
-    ensures { IfOk result (λ read. MatchOption read (Takes make_call (map (λ w. w.now) words.now) → ⊥) (IsCommandLine (map (λ w. w.now) words.now))) }
-{
-    let call = calls::make_call(alloc)?;
-    let Some(matches) = parse(call, words)? else {
-        return Ok(None);
-    };
-    Ok(Some(Command::Make {
-        number: number_of(&matches, "number"),
-        tour: word_of(alloc, &matches, "tour")?,
-        log: word_of(alloc, &matches, "log")?,
-    }))
+    let tour = word_of(alloc, &matches, "tour")?;
+    let log = word_of(alloc, &matches, "log")?;
+    match verb {
+        Verb::Plan => {
+            let cert = word_of(alloc, &matches, "cert")?;
+            let budget = number_of(&matches, "budget");
+            Ok(Some(Command::Plan {
+                tour,
+                log,
+                cert,
+                budget,
+            }))
+        }
+        Verb::Check => {
+            let cert = word_of(alloc, &matches, "cert")?;
+            Ok(Some(Command::Check { tour, log, cert }))
+        }
+        Verb::Audit => Ok(Some(Command::Audit { tour, log })),
+        Verb::Graph => Ok(Some(Command::Graph { tour, log })),
+        Verb::Make => {
+            let number = number_of(&matches, "number");
+            Ok(Some(Command::Make { number, tour, log }))
+        }
+    }
 }
 
 /// The command of texts, `None` where they are no command.
@@ -131,11 +87,11 @@ fn read_texts(alloc: Global, words: &[&str]) -> Result<Option<Command>, NoMemory
     ensures { IfOk result (λ read. MatchOption read (AreRefused (map (λ w. w.now) words.now)) (IsCommandLine (map (λ w. w.now) words.now))) }
 {
     match words.first() {
-        Some(&"plan") => plan_of(alloc, words),
-        Some(&"check") => check_of(alloc, words),
-        Some(&"audit") => audit_of(alloc, words),
-        Some(&"graph") => graph_of(alloc, words),
-        Some(&"make") => make_of(alloc, words),
+        Some(&"plan") => command_by(alloc, Verb::Plan, words),
+        Some(&"check") => command_by(alloc, Verb::Check, words),
+        Some(&"audit") => command_by(alloc, Verb::Audit, words),
+        Some(&"graph") => command_by(alloc, Verb::Graph, words),
+        Some(&"make") => command_by(alloc, Verb::Make, words),
         _ => Ok(None),
     }
 }
