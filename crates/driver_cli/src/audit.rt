@@ -13,23 +13,13 @@ ghost use Rattle.driver_cli.specs.Steps.{Concludes, IsLawfulOr};
 use crate::answer::{Answer, Halt, Status};
 use crate::fetch::{Inputs, fetch_inputs};
 use crate::texts::unlawful_text;
-use duty_core::{Activity, Marks, Minute, NoMemory, unit_of};
+use duty_core::{Activity, Marks, NoMemory, unit_of};
 use outside::{Desk, Word};
 use rule_readings::{Rules, broken};
 use std::alloc::Global;
 use timeline::{Timeline, TimelineFault};
 use tour_model::Tour;
-use tour_plan::first_unlawful;
-
-/// The civil minute at which a log begins that ends where the tour starts.
-pub fn log_start(tour: &Tour, log: &Timeline) -> Minute
-    requires tour { IsTour tour.now }
-    requires short { unit_minutes tour.now.params * length log.now ≤ LONGEST_LOG }
-    ensures value { result ≡ log_start tour.now log.now }
-    ensures ends { result + unit_minutes tour.now.params * length log.now ≡ tour.now.start }
-{
-    tour.start - unit_of(tour.params) * log.len()
-}
+use tour_plan::{first_unlawful, log_start};
 
 /// Puts one unit after a history that has room for it.
 fn append(history: &mut Timeline, act: Activity) -> Result<(), NoMemory>

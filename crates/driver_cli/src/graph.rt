@@ -11,11 +11,11 @@ ghost use Rattle.driver_cli.specs.Answers.{GraphAnswers};
 ghost use Rattle.driver_cli.specs.Steps.{Concludes};
 
 use crate::answer::{Answer, Halt, Status};
-use crate::audit::log_start;
 use crate::fetch::{Inputs, fetch_inputs};
 use duty_core::NoMemory;
 use outside::{Desk, Word};
 use std::alloc::Global;
+use tour_plan::log_start;
 
 /// The answer to a log that was read: its graph.
 fn drawn(alloc: Global, inputs: &Inputs) -> Result<Answer, NoMemory>

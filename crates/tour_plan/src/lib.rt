@@ -8,6 +8,6 @@ mod planned;
 #[cfg(test)]
 mod tests;
 
-pub use audit::first_unlawful;
+pub use audit::{first_unlawful, log_start};
 pub use plan::plan_tour;
 pub use planned::Planned;
