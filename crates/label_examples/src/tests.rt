@@ -1,13 +1,16 @@
-//! One tour by hand: four hours of driving, and then an hour of service.
-ghost use Rattle.std.specs.Prelude.{◌≡◌, IfOk, IfSome};
+//! Two tours by hand: four hours of driving and then an hour of service, and two short stops.
+ghost use Rattle.std.specs.Prelude.{◌≡◌, ◌+◌, ◌<◌, IfOk, IfSome};
+ghost use Rattle.rule_core.specs.Reach.{listed, IsOneOf};
+ghost use Rattle.tour_model.specs.declared.limits.TheConstants.{STEP_LIMIT};
 ghost use Rattle.tour_model.specs.Tour.{IsTour, IsParams};
 ghost use Rattle.cert_text.specs.CoverLists.Planning.{minute_of};
 
-use duty_core::{Activity, NoMemory, Params};
+use cert_text::minute_at;
+use duty_core::{Activity, NoMemory, Params, unit_of};
 use label_dominance::{Offered, better, offer};
 use label_extend::successors;
 use label_state::{Kept, Label, Layers};
-use rule_core::RuleBook;
+use rule_core::{Next, Nexts, RuleBook};
 use std::alloc::Global;
 use std::process::Abort;
 use std::test::Fail;
@@ -17,6 +20,9 @@ use us_rules::UsBook;
 
 const FORM: &str =
     r#"{"book":"us","grid":30,"start":"2026-03-02T06:00","berth":false,"days":8,"day_start":"00:00","stops":[{"name":"A","drive":240,"service":60,"windows":[["2026-03-02T06:00","2026-03-05T06:00"]]}]}"#;
+
+const TWO_STOPS: &str =
+    r#"{"book":"us","grid":30,"start":"2026-03-02T06:00","berth":false,"days":8,"day_start":"00:00","stops":[{"name":"A","drive":30,"service":30,"windows":[["2026-03-02T06:00","2026-03-05T06:00"]]},{"name":"B","drive":30,"service":30,"windows":[["2026-03-02T06:00","2026-03-05T06:00"]]}]}"#;
 
 /// The book of a tour of the United States.
 fn book_of(params: Params) -> Option<UsBook>
@@ -106,6 +112,129 @@ fn keeps_a_label_once<B: RuleBook>(
     );
     assert_eq!(rt; layers.kept(), 1);
     Ok(())
+}
+
+/// The first of the successors, where there is one.
+fn first_of<S: Drop>(nexts: Nexts<S>) -> Option<Next<S>>
+    ensures { IfSome result (λ next. IsOneOf (listed nexts) next) }
+{
+    let Nexts { a, b, c } = nexts;
+    if a.is_some() {
+        return a;
+    }
+    if b.is_some() {
+        return b;
+    }
+    c
+}
+
+/// The state after one more step, which is this step of the tour: None where a rule forbids it.
+fn state_after<B: RuleBook>(
+    book: &B,
+    tour: &Tour,
+    state: &B::State,
+    step: u32,
+    act: Activity,
+) -> Result<Option<B::State>, NoMemory>
+    requires tour { IsTour tour.now }
+    requires params { (B.machine book.now).params ≡ tour.now.params }
+    requires state { (B.machine book.now).is_state state.now (minute_of tour.now step) }
+    requires step { step < STEP_LIMIT }
+    ensures { IfOk result (λ o. IfSome o (λ s. (B.machine book.now).is_state s (minute_of tour.now (step + 1)))) }
+{
+    let units = tour.grid / unit_of(tour.params);
+    let nexts = book.advance(state, minute_at(tour, step), act, units)?;
+    match first_of(nexts) {
+        Some(next) => Ok(Some(next.state)),
+        None => Ok(None),
+    }
+}
+
+/// The state of a driver with no history after a step of driving and three more.
+fn state_at_four<B: RuleBook>(
+    book: &B,
+    tour: &Tour,
+    second: Activity,
+    third: Activity,
+    fourth: Activity,
+) -> Result<Option<B::State>, NoMemory>
+    requires tour { IsTour tour.now }
+    requires params { (B.machine book.now).params ≡ tour.now.params }
+    ensures { IfOk result (λ o. IfSome o (λ s. (B.machine book.now).is_state s (minute_of tour.now 4))) }
+{
+    let first = book.root(tour.start)?;
+    let Some(one) = state_after(book, tour, &first, 0, Activity::Drive)? else {
+        return Ok(None);
+    };
+    let Some(two) = state_after(book, tour, &one, 1, second)? else {
+        return Ok(None);
+    };
+    let Some(three) = state_after(book, tour, &two, 2, third)? else {
+        return Ok(None);
+    };
+    state_after(book, tour, &three, 3, fourth)
+}
+
+/// An entry of the layer of step 4 that has departed at once.
+fn kept_at_four<S>(progress: u32, state: S) -> Kept<S>
+    ensures label { result.label.state ≡ state }
+{
+    Kept {
+        label: Label {
+            depart: Some(0),
+            progress,
+            state,
+        },
+        parent: 0,
+        act: Activity::Off,
+        mark: None,
+    }
+}
+
+/// Checks that a label that has driven to the first stop, served it and rests stands for one that
+/// has only driven there and waits, and not the reverse.
+fn waits_for_a_label_that_has_done_less<B: RuleBook>(
+    rt: &impl Abort,
+    alloc: Global,
+    book: &B,
+    tour: &Tour,
+) -> Result<(), Fail>
+    requires tour { IsTour tour.now }
+    requires params { (B.machine book.now).params ≡ tour.now.params }
+{
+    let rested = state_at_four(book, tour, Activity::Serve, Activity::Off, Activity::Off)?;
+    let waited = state_at_four(book, tour, Activity::Wait, Activity::Wait, Activity::Wait)?;
+    let (Some(rested), Some(waited)) = (rested, waited) else {
+        assert!(rt; false);
+        return Ok(());
+    };
+    let more = kept_at_four(2, rested);
+    let less = kept_at_four(1, waited);
+    assert!(rt; better(book, tour, &more.label, &less.label, 4));
+    assert!(rt; !better(book, tour, &less.label, &more.label, 4));
+    let mut layers = Layers::new(alloc);
+    layers.push_layer(alloc)?;
+    layers.push_layer(alloc)?;
+    layers.push_layer(alloc)?;
+    layers.push_layer(alloc)?;
+    layers.push_layer(alloc)?;
+    assert_eq!(rt; offer(book, tour, &mut layers, more)?, Offered::Kept);
+    assert_eq!(rt;
+        offer(book, tour, &mut layers, less)?,
+        Offered::Covered { index: 0 }
+    );
+    Ok(())
+}
+
+#[test]
+fn labels_of_two_short_stops(rt: HostRuntime) -> Result<(), Fail> {
+    let alloc = rt.alloc();
+    let tour = read_tour(alloc, TWO_STOPS.as_bytes())?;
+    let Some(book) = book_of(tour.params) else {
+        assert!(rt; false);
+        return Ok(());
+    };
+    waits_for_a_label_that_has_done_less(&rt, alloc, &book, &tour)
 }
 
 #[test]
