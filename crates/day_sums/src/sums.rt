@@ -1,7 +1,7 @@
 //! The sums of the last days.
-ghost use Rattle.std.specs.Prelude.{◌≡◌, ◌+◌, ◌^◌, ◌<◌, ◌≤◌, ◌↔◌, length, replicate, sum, IsSome, IfSome};
+ghost use Rattle.std.specs.Prelude.{◌≡◌, ◌+◌, ◌-◌, ◌^◌, ◌<◌, ◌≤◌, ◌↔◌, length, replicate, sum, IsSome, IfSome};
 ghost use Rattle.duty_core.specs.declared.limits.TheConstants.{DAY_MINUTES};
-ghost use Rattle.day_sums.specs.Sums.{IsDays, added, rolled, cleared, today, AreSums, leaves_no_less};
+ghost use Rattle.day_sums.specs.Sums.{IsDays, first_days, added, rolled, cleared, today, AreSums, leaves_no_less};
 
 use duty_core::DAY_MINUTES;
 use std::marker::Model;
@@ -121,6 +121,14 @@ impl DaySums {
         ensures { result ≡ sum self.now }
     {
         sum_of(self.sums())
+    }
+
+    /// `limit` less the duty that still counts after so many day turns, or 0.
+    pub fn left_after(&self, limit: u32, rolls: u8) -> u32
+        ensures { result ≡ limit - first_days (length self.now - rolls) self.now }
+    {
+        let days = self.days.saturating_sub(rolls) as usize;
+        limit.saturating_sub(sum_of(&self.sums()[..days]))
     }
 
     /// Whether these sums leave no less of the limit than the others, of as many days, after each

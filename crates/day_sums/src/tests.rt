@@ -7,6 +7,9 @@ fn eight_days_of_ten_hours(rt: HostRuntime) -> Result<(), Fail> {
     let sums = DaySums::of_sums(&[600; 8]).ok_or("no sums")?;
     assert_eq!(rt; sums.days(), 8);
     assert_eq!(rt; sums.total(), 4800);
+    assert_eq!(rt; sums.left_after(4200, 0), 0);
+    assert_eq!(rt; sums.left_after(4200, 1), 0);
+    assert_eq!(rt; sums.left_after(4200, 2), 600);
     Ok(())
 }
 
