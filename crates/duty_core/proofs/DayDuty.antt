@@ -11,12 +11,13 @@ use Rattle.duty_core.specs.declared.params.Params.TheVariants.{UsProperty, Canad
 use Rattle.duty_core.specs.declared.params.RestWay.{RestWay}
 use Rattle.duty_core.specs.declared.limits.TheConstants.{DAY_MINUTES}
 use Rattle.duty_core.specs.Activity.{works}
-use Rattle.duty_core.specs.Params.{unit_minutes, day_units, BeginsUnit}
+use Rattle.duty_core.specs.Params.{BookUnit, InMinutes, InQuarters, minutes_in, units_in_day, terms_of, unit_minutes, day_units, BeginsUnit}
 use Rattle.duty_core.specs.History.{pad_days, pad_units, unit_at, between}
 use Rattle.duty_core.specs.Day.{day_start, minute_at, day_number, IsNumberOfDay, IsFirstOfDays}
 use Rattle.duty_core.specs.Counting.{duty}
 use Rattle.duty_core.specs.DayMeaning.{BeginsDay, LiesInDay, HasDayDuty, duty_of}
 use Rattle.duty_core.specs.Laws.DayLaws.{padding_days}
+use Rattle.duty_core.specs.Laws.BookFacts.{begins_whole}
 use Rattle.duty_core.specs.Laws.CountLaws.{count_more, count_none}
 use Rattle.duty_core.specs.Laws.CountBaseLaws.{day_on, has_first_at}
 use Rattle.duty_core.specs.Laws.UniqueLaws.{first_of_days_unique}
@@ -57,25 +58,30 @@ australia_minute first k = (omega (arith, ints), refl)
 rises_at : (m u s k : ℕ) (date minute : ℤ) → 0 < u → u ≤ DAY_MINUTES → s ≤ DAY_MINUTES → minute +ℤ pos (k * DAY_MINUTES) ≡ pos (m + u) → BeginsDay s date minute → (m + u + (DAY_MINUTES - s)) / DAY_MINUTES ≡ (m + (DAY_MINUTES - s)) / DAY_MINUTES + 1
 rises_at m u s k date minute some small l e b = omega (arith, ints)
 
-unit_within : (params : Params) → (0 < unit_minutes params) × (unit_minutes params ≤ DAY_MINUTES)
-unit_within (UsProperty berth days start) = (omega arith, omega arith)
-unit_within (Canada berth way cycle start) = (omega arith, omega arith)
-unit_within Hvnl = (omega arith, omega arith)
+unit_within : (u : BookUnit) → (0 < minutes_in u) × (minutes_in u ≤ DAY_MINUTES)
+unit_within InMinutes = (omega arith, omega arith)
+unit_within InQuarters = (omega arith, omega arith)
 
 pub number_rises : (params : Params) (first i : ℕ) (date : ℤ) → day_start params ≤ DAY_MINUTES → BeginsDay (day_start params) date (minute_at params first (i + 1)) → day_number params first (i + 1) ≡ day_number params first i + 1
 number_rises params first i date l b =
-    let u = unit_within params in
+    let u = unit_within (terms_of params).unit in
     let e = from_padding params first (i + 1) in
     let m : first + unit_minutes params * (i + 1) ≡ first + unit_minutes params * i + unit_minutes params = omega arith in
     let r = rises_at (first + unit_minutes params * i) (unit_minutes params) (day_start params) pad_days date (minute_at params first (i + 1)) u.0 u.1 l (e ∙ ap pos m) b in
     ap (λ n. (n + (DAY_MINUTES - day_start params)) / DAY_MINUTES) m ∙ r
 
+unit_begins : (u : BookUnit) (start first i whole units : ℕ) → start ≤ DAY_MINUTES → start ≡ minutes_in u * whole → first ≡ minutes_in u * units →
+    (first + minutes_in u * i + (DAY_MINUTES - start)) / DAY_MINUTES < (first + minutes_in u * (i + 1) + (DAY_MINUTES - start)) / DAY_MINUTES →
+    first + minutes_in u * (i + 1) + DAY_MINUTES ≡ DAY_MINUTES * ((first + minutes_in u * (i + 1) + (DAY_MINUTES - start)) / DAY_MINUTES) + start
+unit_begins InMinutes start first i whole units l s b r = omega arith
+unit_begins InQuarters start first i whole units l s b r = omega arith
+
 -- where the number rises, a day begins
 begins_where : (params : Params) (first i : ℕ) → day_start params ≤ DAY_MINUTES → BeginsUnit params first → day_number params first i < day_number params first (i + 1) →
     first + unit_minutes params * (i + 1) + DAY_MINUTES ≡ DAY_MINUTES * day_number params first (i + 1) + day_start params
-begins_where (UsProperty berth days start) first i l b r = omega arith
-begins_where (Canada berth way cycle start) first i l b r = omega arith
-begins_where Hvnl first i l b r = let w = b.whole in omega arith
+begins_where params first i l b r =
+    let s = begins_whole params in
+    unit_begins (terms_of params).unit (day_start params) first i s.units b.units l s.whole b.whole r
 
 begins_at : (m s n k : ℕ) (minute : ℤ) → minute +ℤ pos (k * DAY_MINUTES) ≡ pos m → m + DAY_MINUTES ≡ DAY_MINUTES * n + s → BeginsDay s (pos n -ℤ pos (k + 1)) minute
 begins_at m s n k minute e h = omega (arith, ints)
@@ -88,11 +94,13 @@ number_stays params first i l b none = elim (cases_lt (day_number params first i
   | inr r ↦ (let o = day_on params first i (i + 1) (omega arith) in omega arith)
 ]
 
+unit_one_more : (u : BookUnit) (start first i : ℕ) → (first + minutes_in u * (i + 1) + (DAY_MINUTES - start)) / DAY_MINUTES ≤ (first + minutes_in u * i + (DAY_MINUTES - start)) / DAY_MINUTES + 1
+unit_one_more InMinutes start first i = omega arith
+unit_one_more InQuarters start first i = omega arith
+
 -- the number rises by one at most
 one_more : (params : Params) (first i : ℕ) → day_number params first (i + 1) ≤ day_number params first i + 1
-one_more (UsProperty berth days start) first i = omega arith
-one_more (Canada berth way cycle start) first i = omega arith
-one_more Hvnl first i = omega arith
+one_more params first i = unit_one_more (terms_of params).unit (day_start params) first i
 
 pub rises_at_first_unit : (params : Params) (first i : ℕ) → (day_number params first (i + 1) ≡ day_number params first i + 1) ↔ IsFirstOfDays (day_number params first) 1 (i + 1) (i + 1)
 rises_at_first_unit params first i = (
@@ -147,10 +155,12 @@ day_duty_anew params first i p e = record {
       omega arith;
 }
 
+unit_day_long : (u : BookUnit) (start first j i : ℕ) → j ≤ i → (first + minutes_in u * j + (DAY_MINUTES - start)) / DAY_MINUTES ≡ (first + minutes_in u * i + (DAY_MINUTES - start)) / DAY_MINUTES → i < j + units_in_day u
+unit_day_long InMinutes start first j i l e = omega arith
+unit_day_long InQuarters start first j i l e = omega arith
+
 units_of_day : (params : Params) (first j i : ℕ) → j ≤ i → day_number params first j ≡ day_number params first i → i < j + day_units params
-units_of_day (UsProperty berth days start) first j i l e = omega arith
-units_of_day (Canada berth way cycle start) first j i l e = omega arith
-units_of_day Hvnl first j i l e = omega arith
+units_of_day params first j i l e = unit_day_long (terms_of params).unit (day_start params) first j i l e
 
 between_short : (p : List Activity) (from to : ℕ) → length (between p from to) ≤ to - from
 between_short p from to = omega (arith, length-drop from (take to p), length-take to p)

@@ -1,14 +1,13 @@
 -- The Canadian rules of a shift, after SOR/2005-313, sections 13 and 18, as facts of a padded history p and a place i of it. A unit is a minute.
-use Rattle.std.specs.Prelude.{◌≡◌, ℕ, ◌+◌, ◌-◌, ◌≤◌, List, Contains}
+use Rattle.std.specs.Prelude.{◌≡◌, ℕ, ◌+◌, ◌-◌, ◌≤◌, List, Contains, Some}
 use Rattle.duty_core.specs.declared.activity.Activity.{Activity}
 use Rattle.duty_core.specs.declared.activity.Activity.TheVariants.{Drive}
 use Rattle.duty_core.specs.declared.mark.Mark.{Mark}
 use Rattle.duty_core.specs.declared.mark.Mark.TheVariants.{SplitRest}
 use Rattle.duty_core.specs.declared.params.Params.{Params}
-use Rattle.duty_core.specs.declared.params.Params.TheVariants.{UsProperty, Canada, Hvnl}
 use Rattle.duty_core.specs.declared.params.RestWay.TheVariants.{Split}
 use Rattle.duty_core.specs.declared.limits.TheConstants.{CA_FULL_REST, CA_SHIFT_DRIVING_LIMIT, CA_SHIFT_DUTY_LIMIT, CA_ELAPSED_LIMIT, CA_SPLIT_LEAST, CA_PAIR_LEAST}
-use Rattle.duty_core.specs.Params.{has_berth}
+use Rattle.duty_core.specs.Params.{terms_of, has_berth}
 use Rattle.duty_core.specs.History.{unit_at}
 use Rattle.duty_core.specs.Stretch.{IsBerth}
 use Rattle.duty_core.specs.Counting.{driving, duty}
@@ -30,9 +29,7 @@ MeetsCaElapsed16 p Marked i = unit_at p i ≡ Drive → (base omitted : ℕ) →
 
 -- the tour rests by the way `split`
 abbrev pub IsSplitWay : Params → Type 0
-IsSplitWay (UsProperty berth days start) = ⊥
-IsSplitWay (Canada berth way cycle start) = way ≡ Split
-IsSplitWay Hvnl = ⊥
+IsSplitWay params = (terms_of params).way ≡ Some Split
 
 -- the rests from a to b and from c to d are a pair: ten hours together, and the second one is all Berth
 pub record IsCaPair (p : List Activity) (a b c d : ℕ) : Type 0 where

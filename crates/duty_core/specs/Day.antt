@@ -1,16 +1,13 @@
 -- The minutes and the days of the places of a padded history, whose history begins at the minute `first`.
 use Rattle.std.specs.Prelude.{◌≡◌, ℕ, ◌+◌, ◌-◌, ◌*◌, ◌/◌, ◌<◌, ◌≤◌, ℤ, pos, ◌+ℤ◌, ◌-ℤ◌}
 use Rattle.duty_core.specs.declared.params.Params.{Params}
-use Rattle.duty_core.specs.declared.params.Params.TheVariants.{UsProperty, Canada, Hvnl}
 use Rattle.duty_core.specs.declared.limits.TheConstants.{DAY_MINUTES}
-use Rattle.duty_core.specs.Params.{unit_minutes}
+use Rattle.duty_core.specs.Params.{terms_of, unit_minutes}
 use Rattle.duty_core.specs.History.{pad_days, pad_units}
 
 -- how many minutes after midnight a day of the book begins
 abbrev pub day_start : Params → ℕ
-day_start (UsProperty berth days start) = start
-day_start (Canada berth way cycle start) = start
-day_start Hvnl = 0
+day_start params = (terms_of params).day_start
 
 -- the civil minute at which place i begins; a place of the padding may lie before year 2000
 abbrev pub minute_at : Params → ℕ → ℕ → ℤ

@@ -1,12 +1,12 @@
 -- The daily rest in Canada and its deferral, after SOR/2005-313, sections 14 and 16, as facts of a padded history p. `Deferred` tells of the number of a day whether a mark defers that day.
-use Rattle.std.specs.Prelude.{◌≡◌, ℕ, ◌+◌, ◌-◌, ◌<◌, ◌≤◌, ◌⊎◌, ℤ, List, Contains}
+use Rattle.std.specs.Prelude.{◌≡◌, ℕ, ◌+◌, ◌-◌, ◌<◌, ◌≤◌, ◌⊎◌, ℤ, List, Contains, Some}
 use Rattle.duty_core.specs.declared.activity.Activity.{Activity}
 use Rattle.duty_core.specs.declared.mark.Mark.{Mark}
 use Rattle.duty_core.specs.declared.mark.Mark.TheVariants.{DeferDay}
 use Rattle.duty_core.specs.declared.params.Params.{Params}
-use Rattle.duty_core.specs.declared.params.Params.TheVariants.{UsProperty, Canada, Hvnl}
 use Rattle.duty_core.specs.declared.params.RestWay.TheVariants.{Defer}
 use Rattle.duty_core.specs.declared.limits.TheConstants.{CA_FULL_REST, CA_LOST_LIMIT, CA_DEFERRED_LOST_LIMIT, CA_BOTH_LOST_LIMIT}
+use Rattle.duty_core.specs.Params.{terms_of}
 use Rattle.duty_core.specs.Stretch.{IsRest}
 use Rattle.duty_core.specs.Day.{IsNumberOfDay}
 use Rattle.duty_core.specs.Marks.{IsDeferred}
@@ -40,9 +40,7 @@ pub record IsDeferral (day : ℕ → ℕ) (p : List Activity) (j : ℕ) : Type 0
 
 -- the tour rests by the way `defer`
 abbrev pub IsDeferWay : Params → Type 0
-IsDeferWay (UsProperty berth days start) = ⊥
-IsDeferWay (Canada berth way cycle start) = way ≡ Defer
-IsDeferWay Hvnl = ⊥
+IsDeferWay params = (terms_of params).way ≡ Some Defer
 
 -- what a mark of this day may stand for: a deferral under the way `defer`, and the next day has no mark
 pub record IsCaDeferral (params : Params) (day : ℕ → ℕ) (p : List Activity) (marks : List Mark) (date : ℤ) : Type 0 where

@@ -14,6 +14,7 @@ pub mod LostFrontLaws
 pub mod ExistLaws
 pub mod MarkListLaws
 pub mod FrontLaws
+pub mod BookFacts
 pub mod BookLaws
 pub mod BetweenLaws
 pub mod RestLaws

@@ -1,10 +1,10 @@
 -- The marks of a history that begins at the minute `first`, and what they name.
-use Rattle.std.specs.Prelude.{◌≡◌, ℕ, ℤ, pos, ◌+ℤ◌, ◌*ℤ◌, ◌<ℤ◌, List, [], Contains, AllPairs}
+use Rattle.std.specs.Prelude.{◌≡◌, ℕ, ℤ, pos, ◌+ℤ◌, ◌*ℤ◌, ◌<ℤ◌, Bool, true, false, List, [], Contains, AllPairs}
 use Rattle.duty_core.specs.declared.mark.Mark.{Mark}
 use Rattle.duty_core.specs.declared.mark.Mark.TheVariants.{SplitRest, DeferDay}
 use Rattle.duty_core.specs.declared.params.Params.{Params}
-use Rattle.duty_core.specs.declared.params.Params.TheVariants.{UsProperty, Canada, Hvnl}
 use Rattle.duty_core.specs.declared.limits.TheConstants.{DAY_MINUTES}
+use Rattle.duty_core.specs.Params.{terms_of}
 use Rattle.duty_core.specs.Day.{day_start, minute_at, IsNumberOfDay}
 
 -- the civil minute that a mark stands at: the first one of its rest run, or of its day
@@ -16,11 +16,13 @@ mark_minute params (DeferDay day) = day *ℤ pos DAY_MINUTES +ℤ pos (day_start
 abbrev pub AreInOrder : Params → List Mark → Type 0
 AreInOrder params marks = AllPairs (λ m n. mark_minute params m <ℤ mark_minute params n) marks
 
--- a list of marks of the book: strictly increasing in time, and none for Australia
+-- a list of marks of the book: strictly increasing in time, and none where a history has no marks
+abbrev pub AreMarksIf : Bool → Params → List Mark → Type 0
+AreMarksIf true params marks = AreInOrder params marks
+AreMarksIf false params marks = marks ≡ []
+
 abbrev pub AreMarks : Params → List Mark → Type 0
-AreMarks (UsProperty berth days start) marks = AreInOrder (UsProperty berth days start) marks
-AreMarks (Canada berth way cycle start) marks = AreInOrder (Canada berth way cycle start) marks
-AreMarks Hvnl marks = marks ≡ []
+AreMarks params marks = AreMarksIf (terms_of params).has_marks params marks
 
 -- the minute `at` is that of place i
 abbrev pub IsMinuteOf : Params → ℕ → ℕ → ℕ → Type 0

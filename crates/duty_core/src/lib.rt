@@ -33,5 +33,5 @@ pub use limits::{
 };
 pub use mark::{Day, Mark, Marks, Minute};
 pub use memory::NoMemory;
-pub use params::{Params, RestWay, allowed, unit_of};
+pub use params::{Params, RestWay, allowed, day_start_of, has_berth, unit_of, way_of};
 pub use rule::Rule;

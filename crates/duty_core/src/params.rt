@@ -1,6 +1,7 @@
 //! The parameters of a rule book.
 ghost use Rattle.std.specs.Prelude.{◌≡◌};
-ghost use Rattle.duty_core.specs.Params.{unit_minutes, allows};
+ghost use Rattle.duty_core.specs.Params.{terms_of, unit_minutes, has_berth, allows};
+ghost use Rattle.duty_core.specs.Day.{day_start};
 
 use crate::activity::Activity;
 
@@ -46,15 +47,42 @@ pub fn unit_of(params: Params) -> u32
     }
 }
 
+/// Whether the truck has a sleeper berth.
+pub fn has_berth(params: Params) -> bool
+    ensures { result ≡ has_berth params }
+{
+    match params {
+        Params::UsProperty { berth, .. } | Params::Canada { berth, .. } => berth,
+        Params::Hvnl {} => false,
+    }
+}
+
+/// How many minutes after midnight a day of the book begins.
+pub fn day_start_of(params: Params) -> u16
+    ensures { result ≡ day_start params }
+{
+    match params {
+        Params::UsProperty { day_start, .. } | Params::Canada { day_start, .. } => day_start,
+        Params::Hvnl {} => 0,
+    }
+}
+
+/// How the history may part its rest, in a book where a tour states one way.
+pub fn way_of(params: Params) -> Option<RestWay>
+    ensures { result ≡ (terms_of params).way }
+{
+    match params {
+        Params::Canada { way, .. } => Some(way),
+        Params::UsProperty { .. } | Params::Hvnl {} => None,
+    }
+}
+
 /// Whether a schedule may hold the activity: duty, and the tour's rest, which is `Berth` where the
 /// tour has a berth and `Off` where it has none.
 pub fn allowed(params: Params, act: Activity) -> bool
     ensures { result ≡ allows params act }
 {
-    let berth = match params {
-        Params::UsProperty { berth, .. } | Params::Canada { berth, .. } => berth,
-        Params::Hvnl {} => false,
-    };
+    let berth = has_berth(params);
     match act {
         Activity::Drive | Activity::Serve | Activity::Wait => true,
         Activity::Off => !berth,

@@ -1,5 +1,5 @@
 -- The book is exact: a history is reached from the root by a path that chooses these marks exactly where it keeps every rule with them.
-use Rattle.std.proofs.Common.{◌≡◌, ◌↔◌, ℕ, ◌+◌, ◌-◌, ◌<◌, ◌≤◌, Bool, true, false, List, [], ◌∷◌, ◌++◌, length, refl, sym, ◌∙◌, ap, subst, arith, length-append, inl, inr}
+use Rattle.std.proofs.Common.{◌≡◌, ◌↔◌, ℕ, ◌+◌, ◌-◌, ◌<◌, ◌≤◌, Bool, true, false, List, [], ◌∷◌, ◌++◌, length, Some, refl, sym, ◌∙◌, ap, subst, arith, length-append, inl, inr}
 use Rattle.std.specs.Prelude.{map, Contains, All, AllPairs}
 use Rattle.std.proofs.lemmas.Bool.{cases_lt}
 use Rattle.std.proofs.lemmas.List.Elements.{All-cons}
@@ -216,7 +216,7 @@ marks_placed berth cycle start first h marks k (SplitRest at) i =
     let s = k.pair.splits at i in
     let e = minute_means (Canada berth Split cycle start) first at s.from (ca_minutes berth Split cycle start) s.minute in
     omega arith
-marks_placed berth cycle start first h marks k (DeferDay day) i = absurd (let w = (k.defer day i).defer_way in let z : Split ≡ Defer = w in cc)
+marks_placed berth cycle start first h marks k (DeferDay day) i = absurd (let w = (k.defer day i).defer_way in let z : Some Split ≡ Some Defer = w in cc)
 
 -- # Marks of deferrals
 

@@ -1,5 +1,5 @@
 -- Days and cycles of a Canadian book: the numbers of its days, where they begin, and its rules.
-use Rattle.std.proofs.Common.{◌≡◌, ◌↔◌, ℕ, ◌+◌, ◌-◌, ◌*◌, ◌/◌, ◌%◌, ◌<◌, ◌≤◌, Bool, true, false, List, [], refl, sym, ◌∙◌, arith, inl, inr}
+use Rattle.std.proofs.Common.{◌≡◌, ◌↔◌, ℕ, ◌+◌, ◌-◌, ◌*◌, ◌/◌, ◌%◌, ◌<◌, ◌≤◌, Bool, true, false, List, [], Some, refl, sym, ◌∙◌, arith, inl, inr}
 use Rattle.std.specs.Prelude.{nat_lt, ℤ, Contains, ◌==◌}
 use Rattle.std.proofs.lemmas.Bool.{cases_eq}
 use Rattle.std.proofs.lemmas.Bool.Decides.{nat_tests}
@@ -8,7 +8,7 @@ use Rattle.duty_core.specs.declared.activity.Activity.{Activity}
 use Rattle.duty_core.specs.declared.mark.Mark.{Mark}
 use Rattle.duty_core.specs.declared.mark.Mark.TheVariants.{SplitRest, DeferDay}
 use Rattle.duty_core.specs.declared.params.Params.{Params}
-use Rattle.duty_core.specs.declared.params.Params.TheVariants.{UsProperty, Canada, Hvnl}
+use Rattle.duty_core.specs.declared.params.Params.TheVariants.{Canada}
 use Rattle.duty_core.specs.declared.params.RestWay.{RestWay}
 use Rattle.duty_core.specs.declared.params.RestWay.TheVariants.{Split, Defer}
 use Rattle.duty_core.specs.declared.rule.Rule.TheVariants.{CaOff10, CaDefer, Ca24in14, CaCycle, Ca70without24}
@@ -81,7 +81,7 @@ pub split_rules : (berth : Bool) (cycle start first : ℕ) (h : List Activity) (
     ↔ (NoDeferral marks × ((j : ℕ) → lost (day_number (Canada berth Split cycle start) first) (ca_padded h) j ≤ CA_LOST_LIMIT))
 split_rules berth cycle start first h marks = (
   (λ k.
-      let none : (date : ℤ) → Contains marks (DeferDay date) → ⊥ = λ date c. absurd (let w = (k.1 date c).defer_way in let z : Split ≡ Defer = w in cc) in (
+      let none : (date : ℤ) → Contains marks (DeferDay date) → ⊥ = λ date c. absurd (let w = (k.1 date c).defer_way in let z : Some Split ≡ Some Defer = w in cc) in (
         record { none = none },
         (λ j. elim (k.0 j) [ inr l ↦ l | inl d ↦ elim d [ inl m ↦ absurd (none m.day m.marked) | inr m ↦ absurd (let i = m.2 in none i.day i.marked) ] ]),
       )),
@@ -103,9 +103,7 @@ split_days berth cycle start first h marks none =
 -- Under `defer` a mark that may stand in a book defers a day.
 pub pair_deferrals : (params : Params) (first : ℕ) (p : List Activity) (marks : List Mark) → IsDeferWay params → MeetsCaPair params first p marks → AreDeferrals marks
 pair_deferrals params first p marks way pair (DeferDay date) c = (date, refl)
-pair_deferrals (UsProperty berth days start) first p marks way pair (SplitRest at) c = absurd way
-pair_deferrals (Canada berth rest_way cycle start) first p marks way pair (SplitRest at) c = absurd (let s = (pair.splits at c).split_way in let z : Split ≡ Defer = sym s ∙ way in cc)
-pair_deferrals Hvnl first p marks way pair (SplitRest at) c = absurd way
+pair_deferrals params first p marks way pair (SplitRest at) c = absurd (let s = (pair.splits at c).split_way in let z : Some Split ≡ Some Defer = sym s ∙ way in cc)
 
 -- Under `defer` the days take a history with these marks exactly where these are marks of deferrals, in order, with which it keeps CA-OFF10 and CA-DEFER.
 pub defer_days : (berth : Bool) (cycle start first : ℕ) (h : List Activity) (marks : List Mark) →

@@ -11,7 +11,8 @@ use Rattle.duty_core.specs.MarkMeaning.{StandsIn}
 use Rattle.duty_core.specs.RuleBooks.{KeepsAll}
 use Rattle.duty_core.specs.Laws.MarkListLaws.{marks_in_order, same_marks}
 use Rattle.duty_core.specs.Laws.FrontLaws.{IsHead, head_run, head_lost}
-use Rattle.duty_core.specs.Laws.BookLaws.{are_true, front_is_head, front_keeps}
+use Rattle.duty_core.specs.Laws.BookFacts.{are_true}
+use Rattle.duty_core.specs.Laws.BookLaws.{front_is_head, front_keeps}
 
 -- a mark that stands for something in a front stands for it in the whole
 head_stands : (params : Params) (first n : ℕ) (p q : List Activity) → IsHead n p q → (m : Mark) → StandsIn params first p m → StandsIn params first q m

@@ -10,8 +10,6 @@ use Rattle.duty_core.specs.declared.activity.Activity.TheVariants.{Off}
 use Rattle.duty_core.specs.declared.mark.Mark.{Mark}
 use Rattle.duty_core.specs.declared.mark.Mark.TheVariants.{SplitRest, DeferDay}
 use Rattle.duty_core.specs.declared.params.Params.{Params}
-use Rattle.duty_core.specs.declared.params.Params.TheVariants.{UsProperty, Canada, Hvnl}
-use Rattle.duty_core.specs.declared.rule.Rule.TheVariants.{UsPair, CaDefer, CaPair}
 use Rattle.duty_core.specs.declared.limits.TheConstants.{CA_LOST_LIMIT}
 use Rattle.duty_core.specs.Activity.{rests}
 use Rattle.duty_core.specs.History.{unit_at, pad_units, padding, padded}
@@ -19,53 +17,14 @@ use Rattle.duty_core.specs.Laws.HistoryLaws.{AreAlike, alike_back, unit_at-appen
 use Rattle.duty_core.specs.RestRun.{IsRun}
 use Rattle.duty_core.specs.Laws.RunLaws.{run_alike}
 use Rattle.duty_core.specs.Day.{day_number}
-use Rattle.duty_core.specs.Marks.{mark_minute, AreMarks, IsDeferred}
+use Rattle.duty_core.specs.Marks.{mark_minute, AreMarks}
 use Rattle.duty_core.specs.LostMinutes.{lost}
-use Rattle.duty_core.specs.UsRules.{MeetsUsPair}
-use Rattle.duty_core.specs.CaShift.{MeetsCaPair}
-use Rattle.duty_core.specs.Deferral.{MeetsCaDefer}
 use Rattle.duty_core.specs.MarkMeaning.{StandsIn}
 use Rattle.duty_core.specs.RuleBooks.{rules_of, KeepsPadded, KeepsAll, IsLawfulByBook}
+use Rattle.duty_core.specs.Laws.BookFacts.{AreTrue, are_true}
 use Rattle.duty_core.specs.Laws.PrefixLaws.{padded_front}
-use Rattle.duty_core.specs.Laws.MarkListLaws.{no_member, has_part, marks_in_order, marks_of_part}
+use Rattle.duty_core.specs.Laws.MarkListLaws.{has_part, marks_in_order, marks_of_part}
 use Rattle.duty_core.specs.Laws.FrontLaws.{IsHead, run_before, head_run, run_end, head_lost, minute_place, day_has_number, AreKept, head_keeps}
-
--- # What the marks of a lawful history stand for
-
--- each mark stands for something in p, and the day after a deferred day loses little
-pub record AreTrue (params : Params) (first : ℕ) (p : List Activity) (marks : List Mark) : Type 0 where
-  pub stands : (m : Mark) → Contains marks m → StandsIn params first p m
-  pub next_day : (i : ℕ) → IsDeferred marks i → lost (day_number params first) p (i + 1) ≤ CA_LOST_LIMIT
-
-us_stands : (params : Params) (first : ℕ) (p : List Activity) (marks : List Mark) → MeetsUsPair params first p marks → (m : Mark) → Contains marks m → StandsIn params first p m
-us_stands params first p marks g (SplitRest at) c = let s = g.splits at c in record { from = s.from; to = s.run.to; minute = s.minute; run = s.run.run }
-us_stands params first p marks g (DeferDay day) c = absurd (g.none_deferred day c)
-
-ca_stands : (params : Params) (first : ℕ) (p : List Activity) (marks : List Mark) → MeetsCaPair params first p marks → MeetsCaDefer params (day_number params first) p marks → (m : Mark) → Contains marks m → StandsIn params first p m
-ca_stands params first p marks g f (SplitRest at) c = let s = g.splits at c in record { from = s.from; to = s.run.to; minute = s.minute; run = s.run.run }
-ca_stands params first p marks g f (DeferDay day) c = let s = f day c in record { number = s.number; numbered = s.numbered; least = s.defers.least }
-
-ca_next_day : (params : Params) (first : ℕ) (p : List Activity) (marks : List Mark) → MeetsCaDefer params (day_number params first) p marks → (i : ℕ) → IsDeferred marks i → lost (day_number params first) p (i + 1) ≤ CA_LOST_LIMIT
-ca_next_day params first p marks f i d =
-    let s = f d.day d.marked in
-    let e : s.number ≡ i = day_has_number d.day s.number i s.numbered d.numbered in
-    let a = s.defers.least in
-    let b = s.defers.both in
-    subst (λ n. lost (day_number params first) p (n + 1) ≤ CA_LOST_LIMIT) e (omega arith)
-
-pub are_true : (params : Params) (first : ℕ) (h : List Activity) (marks : List Mark) → KeepsAll params first h marks → AreTrue params first (padded params h) marks
-are_true (UsProperty berth days start) first h marks k =
-    let params : Params = UsProperty berth days start in
-    let g : MeetsUsPair params first (padded params h) marks = k.rules 4 UsPair (omega arith) in
-    record { stands = us_stands params first (padded params h) marks g; next_day = λ i d. absurd (g.none_deferred d.day d.marked) }
-are_true (Canada berth way cycle start) first h marks k =
-    let params : Params = Canada berth way cycle start in
-    let f : MeetsCaDefer params (day_number params first) (padded params h) marks = k.rules 6 CaDefer (omega arith) in
-    let g : MeetsCaPair params first (padded params h) marks = k.rules 7 CaPair (omega arith) in
-    record { stands = ca_stands params first (padded params h) marks g f; next_day = ca_next_day params first (padded params h) marks f }
-are_true Hvnl first h marks k =
-    let none : (m : Mark) → Contains marks m → ⊥ = λ m c. no_member m (subst (λ l. Contains l m) k.marks_of_book c) in
-    record { stands = λ m c. absurd (none m c); next_day = λ i d. absurd (none (DeferDay d.day) d.marked) }
 
 -- # Fronts
 

@@ -1,5 +1,5 @@
 -- At each unit of duty of a padded history there is one place from which a rule counts, so that no rule is empty there.
-use Rattle.std.proofs.Common.{◌≡◌, ℕ, ◌+◌, ◌-◌, ◌*◌, ◌<◌, ◌≤◌, true, false, not, List, [], ◌∷◌, sym, refl, ◌∙◌, ap, subst, arith, inl, inr, zero, suc}
+use Rattle.std.proofs.Common.{◌≡◌, ℕ, ◌+◌, ◌-◌, ◌*◌, ◌/◌, ◌<◌, ◌≤◌, true, false, not, List, [], ◌∷◌, sym, refl, ◌∙◌, ap, subst, arith, inl, inr, zero, suc}
 use Rattle.std.proofs.lemmas.Bool.{cases_lt, cases_eq, cases_Bool}
 use Rattle.std.proofs.lemmas.Int.{ints}
 use Rattle.duty_core.specs.declared.activity.Activity.{Activity}
@@ -7,13 +7,12 @@ use Rattle.duty_core.specs.declared.activity.Activity.TheVariants.{Drive, Serve,
 use Rattle.duty_core.specs.declared.mark.Mark.{Mark}
 use Rattle.duty_core.specs.declared.mark.Mark.TheVariants.{SplitRest, DeferDay}
 use Rattle.duty_core.specs.declared.params.Params.{Params}
-use Rattle.duty_core.specs.declared.params.Params.TheVariants.{UsProperty, Canada, Hvnl}
-use Rattle.duty_core.specs.declared.limits.TheConstants.{US_BREAK}
+use Rattle.duty_core.specs.declared.limits.TheConstants.{DAY_MINUTES, US_BREAK}
 use Rattle.duty_core.specs.Activity.{rests, works, drives}
-use Rattle.duty_core.specs.Params.{unit_minutes}
+use Rattle.duty_core.specs.Params.{BookUnit, InMinutes, InQuarters, minutes_in, units_in_day, terms_of, unit_minutes}
 use Rattle.duty_core.specs.History.{unit_at, pad_days, pad_units, padded}
 use Rattle.duty_core.specs.Stretch.{IsStill}
-use Rattle.duty_core.specs.Day.{day_number, IsFirstOfDays}
+use Rattle.duty_core.specs.Day.{day_start, day_number, IsFirstOfDays}
 use Rattle.duty_core.specs.Counting.{IsLastEnd, IsDaysBase}
 use Rattle.duty_core.specs.Marks.{IsMinuteOf, IsSplitAt}
 use Rattle.duty_core.specs.Base.{IsBase}
@@ -80,11 +79,13 @@ one_base_at params full first p marks i base omitted other another h g = (
 
 -- # Days
 
+unit_day_on : (u : BookUnit) (start first j k : ℕ) → j ≤ k → (first + minutes_in u * j + (DAY_MINUTES - start)) / DAY_MINUTES ≤ (first + minutes_in u * k + (DAY_MINUTES - start)) / DAY_MINUTES
+unit_day_on InMinutes start first j k l = omega arith
+unit_day_on InQuarters start first j k l = omega arith
+
 -- later places lie in later days
 pub day_on : (params : Params) (first j k : ℕ) → j ≤ k → day_number params first j ≤ day_number params first k
-day_on (UsProperty berth days start) first j k l = omega arith
-day_on (Canada berth way cycle start) first j k l = omega arith
-day_on Hvnl first j k l = omega arith
+day_on params first j k l = unit_day_on (terms_of params).unit (day_start params) first j k l
 
 pub has_end_at : (params : Params) (least : ℕ) (h : List Activity) (i : ℕ) → 0 < least → least ≤ pad_units params → works (unit_at (padded params h) i) ≡ true → (to : ℕ) × IsLastEnd least (padded params h) i to
 has_end_at params least h i some l w = has_last_end params least h some l i (duty_no_rest (unit_at (padded params h) i) w)
@@ -120,11 +121,13 @@ break_told p to = elim (cases_lt to US_BREAK) [
   ]
 ]
 
-padding_has_break : (params : Params) → US_BREAK ≤ pad_units params
+days_have_break : (u : BookUnit) → US_BREAK ≤ pad_days * units_in_day u
 unfolding pad_days
-padding_has_break (UsProperty berth days start) = omega arith
-padding_has_break (Canada berth way cycle start) = omega arith
-padding_has_break Hvnl = omega arith
+days_have_break InMinutes = omega arith
+days_have_break InQuarters = omega arith
+
+padding_has_break : (params : Params) → US_BREAK ≤ pad_units params
+padding_has_break params = days_have_break (terms_of params).unit
 
 -- duty stands after the padding
 after_padding : (params : Params) (h : List Activity) (i : ℕ) → works (unit_at (padded params h) i) ≡ true → pad_units params ≤ i

@@ -1,18 +1,18 @@
 -- A history p that is q up to a place and rest from there on keeps what q keeps, with those marks of q that stand for something in p.
-use Rattle.std.proofs.Common.{◌≡◌, ℕ, ◌+◌, ◌<◌, ◌≤◌, Bool, true, false, ◌&&◌, List, length, sym, refl, ◌∙◌, subst, arith, inl, inr, zero, suc}
-use Rattle.std.specs.Prelude.{nat_eq, ℤ, Contains}
+use Rattle.std.proofs.Common.{◌≡◌, ℕ, ◌+◌, ◌*◌, ◌<◌, ◌≤◌, Bool, true, false, ◌&&◌, List, length, sym, refl, ◌∙◌, subst, arith, inl, inr, zero, suc}
+use Rattle.std.specs.Prelude.{nat_eq, ℤ, pos, ◌-ℤ◌, Contains}
 use Rattle.std.proofs.lemmas.Bool.{cases_lt, cases_Bool, cond-false}
 use Rattle.std.proofs.lemmas.Int.{ints}
 use Rattle.duty_core.specs.declared.activity.Activity.{Activity}
 use Rattle.duty_core.specs.declared.mark.Mark.{Mark}
 use Rattle.duty_core.specs.declared.mark.Mark.TheVariants.{SplitRest, DeferDay}
 use Rattle.duty_core.specs.declared.params.Params.{Params}
-use Rattle.duty_core.specs.declared.params.Params.TheVariants.{UsProperty, Canada, Hvnl}
 use Rattle.duty_core.specs.declared.rule.Rule.{Rule}
 use Rattle.duty_core.specs.declared.rule.Rule.TheVariants.{UsWindow14, UsDrive11, UsBreak8, UsWeek, UsPair, CaDay13, CaDay14, CaShift13, CaShift14, CaElapsed16, CaOff10, CaDefer, CaPair, Ca24in14, CaCycle, Ca70without24, Au5h30, Au8h, Au11h, Au24h, Au24hRest, Au7d, Au7dRest, Au14d, Au14dNights}
 use Rattle.duty_core.specs.declared.limits.TheConstants.{CA_LOST_LIMIT}
 use Rattle.duty_core.specs.Activity.{rests}
-use Rattle.duty_core.specs.History.{unit_at}
+use Rattle.duty_core.specs.Params.{BookUnit, InMinutes, InQuarters, minutes_in, terms_of, unit_minutes}
+use Rattle.duty_core.specs.History.{unit_at, pad_units}
 use Rattle.duty_core.specs.Laws.HistoryLaws.{AreAlike, alike_back, IsRule}
 use Rattle.duty_core.specs.RestRun.{IsRun}
 use Rattle.duty_core.specs.Laws.RunLaws.{run_alike, long_alike}
@@ -205,11 +205,13 @@ head_lost {n} {p} {q} h day j =
 
 -- # Marks
 
+unit_place : (u : BookUnit) (first pads i j : ℕ) (at : ℤ) → at ≡ pos (first + minutes_in u * i) -ℤ pos pads → at ≡ pos (first + minutes_in u * j) -ℤ pos pads → i ≡ j
+unit_place InMinutes first pads i j at h g = omega (arith, ints)
+unit_place InQuarters first pads i j at h g = omega (arith, ints)
+
 -- two places of one minute are one
 pub minute_place : (params : Params) (first at i j : ℕ) → IsMinuteOf params first at i → IsMinuteOf params first at j → i ≡ j
-minute_place (UsProperty berth days start) first at i j h g = omega (arith, ints)
-minute_place (Canada berth way cycle start) first at i j h g = omega (arith, ints)
-minute_place Hvnl first at i j h g = omega (arith, ints)
+minute_place params first at i j h g = unit_place (terms_of params).unit first (unit_minutes params * pad_units params) i j (pos at) h g
 
 -- a day has one number
 pub day_has_number : (date : ℤ) (m n : ℕ) → IsNumberOfDay date m → IsNumberOfDay date n → m ≡ n

@@ -1,5 +1,5 @@
 -- What the marks of a lawful history may name, and that under the way `defer` it has one list of them.
-use Rattle.std.proofs.Common.{◌≡◌, ◌↔◌, ℕ, ◌<◌, ◌≤◌, Bool, true, List, [], sym, ◌∙◌, subst, arith, inl, inr}
+use Rattle.std.proofs.Common.{◌≡◌, ◌↔◌, ℕ, ◌<◌, ◌≤◌, Bool, true, List, [], subst, arith, inl, inr}
 use Rattle.std.specs.Prelude.{ℤ, Contains}
 use Rattle.std.proofs.lemmas.Int.{ints}
 use Rattle.duty_core.specs.declared.activity.Activity.{Activity}
@@ -8,41 +8,20 @@ use Rattle.duty_core.specs.declared.mark.Mark.TheVariants.{SplitRest, DeferDay}
 use Rattle.duty_core.specs.declared.params.Params.{Params}
 use Rattle.duty_core.specs.declared.params.Params.TheVariants.{UsProperty, Canada, Hvnl}
 use Rattle.duty_core.specs.declared.params.RestWay.{RestWay}
-use Rattle.duty_core.specs.declared.params.RestWay.TheVariants.{Split, Defer}
-use Rattle.duty_core.specs.declared.rule.Rule.TheVariants.{UsPair, CaOff10, CaDefer, CaPair}
 use Rattle.duty_core.specs.declared.limits.TheConstants.{US_FULL_REST, CA_FULL_REST, CA_LOST_LIMIT}
 use Rattle.duty_core.specs.Params.{has_berth}
 use Rattle.duty_core.specs.History.{padded}
 use Rattle.duty_core.specs.RestRun.{IsLongRun}
 use Rattle.duty_core.specs.Day.{day_number, IsNumberOfDay}
-use Rattle.duty_core.specs.Marks.{IsMinuteOf, IsDeferred}
+use Rattle.duty_core.specs.Marks.{IsMinuteOf}
 use Rattle.duty_core.specs.DeclaredRest.{IsSplitRest, IsSplittable}
 use Rattle.duty_core.specs.LostMinutes.{lost}
-use Rattle.duty_core.specs.UsRules.{MeetsUsPair}
-use Rattle.duty_core.specs.CaShift.{MeetsCaPair}
-use Rattle.duty_core.specs.Deferral.{IsDeferWay, MeetsCaOff10, MeetsCaDefer}
+use Rattle.duty_core.specs.Deferral.{IsDeferWay}
 use Rattle.duty_core.specs.MarkMeaning.{NamesRun, IsLostDay}
 use Rattle.duty_core.specs.RuleBooks.{KeepsAll}
-use Rattle.duty_core.specs.Laws.MarkListLaws.{no_member, marks_in_order, same_marks}
+use Rattle.duty_core.specs.Laws.MarkListLaws.{marks_in_order, same_marks}
 use Rattle.duty_core.specs.Laws.FrontLaws.{run_end, minute_place, day_has_number}
-use Rattle.duty_core.specs.Laws.BookLaws.{are_true}
-
--- # The rules of the marks, in a book
-
-us_pairs : (berth : Bool) (days start first : ℕ) (h : List Activity) (marks : List Mark) → KeepsAll (UsProperty berth days start) first h marks → MeetsUsPair (UsProperty berth days start) first (padded (UsProperty berth days start) h) marks
-us_pairs berth days start first h marks k = k.rules 4 UsPair (omega arith)
-
-ca_off10 : (berth : Bool) (way : RestWay) (cycle start first : ℕ) (h : List Activity) (marks : List Mark) → KeepsAll (Canada berth way cycle start) first h marks →
-    (j : ℕ) → MeetsCaOff10 (day_number (Canada berth way cycle start) first) (padded (Canada berth way cycle start) h) (IsDeferred marks) j
-ca_off10 berth way cycle start first h marks k = k.rules 5 CaOff10 (omega arith)
-
-ca_defers : (berth : Bool) (way : RestWay) (cycle start first : ℕ) (h : List Activity) (marks : List Mark) → KeepsAll (Canada berth way cycle start) first h marks →
-    MeetsCaDefer (Canada berth way cycle start) (day_number (Canada berth way cycle start) first) (padded (Canada berth way cycle start) h) marks
-ca_defers berth way cycle start first h marks k = k.rules 6 CaDefer (omega arith)
-
-ca_pairs : (berth : Bool) (way : RestWay) (cycle start first : ℕ) (h : List Activity) (marks : List Mark) → KeepsAll (Canada berth way cycle start) first h marks →
-    MeetsCaPair (Canada berth way cycle start) first (padded (Canada berth way cycle start) h) marks
-ca_pairs berth way cycle start first h marks k = k.rules 7 CaPair (omega arith)
+use Rattle.duty_core.specs.Laws.BookFacts.{us_pairs, ca_pairs, are_true}
 
 -- # What a mark of a lawful history names
 
@@ -58,29 +37,17 @@ deferral_names_day params first h marks date k c = (are_true params first h mark
 pub au_unmarked : (first : ℕ) (h : List Activity) (marks : List Mark) → KeepsAll Hvnl first h marks → marks ≡ []
 au_unmarked first h marks k = k.marks_of_book
 
-no_au_mark : (first : ℕ) (h : List Activity) (marks : List Mark) (m : Mark) → KeepsAll Hvnl first h marks → Contains marks m → ⊥
-no_au_mark first h marks m k c = no_member m (subst (λ l. Contains l m) k.marks_of_book c)
-
 -- a rest is split in a truck with a berth
 pub split_has_berth : (params : Params) (first : ℕ) (h : List Activity) (marks : List Mark) (at : ℕ) → KeepsAll params first h marks → Contains marks (SplitRest at) → has_berth params ≡ true
-split_has_berth (UsProperty berth days start) first h marks at k c = ((us_pairs berth days start first h marks k).splits at c).run.berthed
-split_has_berth (Canada berth way cycle start) first h marks at k c = ((ca_pairs berth way cycle start first h marks k).splits at c).run.berthed
-split_has_berth Hvnl first h marks at k c = absurd (no_au_mark first h marks (SplitRest at) k c)
+split_has_berth params first h marks at k c = (are_true params first h marks k).split_berth at c
 
 -- under the way `defer` no rest is split
 pub defer_has_no_split : (params : Params) (first : ℕ) (h : List Activity) (marks : List Mark) (at : ℕ) → IsDeferWay params → KeepsAll params first h marks → Contains marks (SplitRest at) → ⊥
-defer_has_no_split (UsProperty berth days start) first h marks at d k c = absurd d
-defer_has_no_split (Canada berth way cycle start) first h marks at d k c =
-    let s : way ≡ Split = ((ca_pairs berth way cycle start first h marks k).splits at c).split_way in
-    let e : Defer ≡ Split = sym d ∙ s in
-    cc
-defer_has_no_split Hvnl first h marks at d k c = absurd d
+defer_has_no_split params first h marks at d k c = (are_true params first h marks k).split_way at c d
 
 -- a day is deferred under the way `defer` alone
 pub deferral_has_way : (params : Params) (first : ℕ) (h : List Activity) (marks : List Mark) (date : ℤ) → KeepsAll params first h marks → Contains marks (DeferDay date) → IsDeferWay params
-deferral_has_way (UsProperty berth days start) first h marks date k c = absurd ((us_pairs berth days start first h marks k).none_deferred date c)
-deferral_has_way (Canada berth way cycle start) first h marks date k c = (ca_defers berth way cycle start first h marks k date c).defer_way
-deferral_has_way Hvnl first h marks date k c = absurd (no_au_mark first h marks (DeferDay date) k c)
+deferral_has_way params first h marks date k c = (are_true params first h marks k).defer_way date c
 
 -- # A run of full length
 
@@ -123,30 +90,23 @@ ca_split_not_full berth way cycle start first h marks at from to k c m l =
 number_has_day : (date other : ℤ) (n : ℕ) → IsNumberOfDay date n → IsNumberOfDay other n → date ≡ other
 number_has_day date other n h g = omega (arith, ints)
 
--- a day that loses too many minutes is marked: it follows no marked day
-ca_lost_is_marked : (berth : Bool) (way : RestWay) (cycle start first : ℕ) (h : List Activity) (marks : List Mark) (date : ℤ) → KeepsAll (Canada berth way cycle start) first h marks →
-    IsLostDay (day_number (Canada berth way cycle start) first) (padded (Canada berth way cycle start) h) date → Contains marks (DeferDay date)
-ca_lost_is_marked berth way cycle start first h marks date k l =
-    let params : Params = Canada berth way cycle start in
+-- under the way `defer` the marked days are those that lose too many minutes: such a day follows no marked day
+pub lost_is_marked : (params : Params) (first : ℕ) (h : List Activity) (marks : List Mark) (date : ℤ) → IsDeferWay params → KeepsAll params first h marks →
+    IsLostDay (day_number params first) (padded params h) date → Contains marks (DeferDay date)
+lost_is_marked params first h marks date way k l =
     let p : List Activity = padded params h in
+    let t = are_true params first h marks k in
     let least : CA_LOST_LIMIT < lost (day_number params first) p l.number = l.least in
-    elim (ca_off10 berth way cycle start first h marks k l.number) [
+    elim (t.deferred way l.number) [
       | inr m ↦ absurd (omega arith)
       | inl d ↦ elim d [
         | inl m ↦ subst (λ x. Contains marks (DeferDay x)) (number_has_day m.day date l.number m.numbered l.numbered) m.marked
         | inr m ↦ absurd (
             let a : lost (day_number params first) p l.number ≤ CA_LOST_LIMIT =
-            subst (λ x. lost (day_number params first) p x ≤ CA_LOST_LIMIT) m.1 ((are_true params first h marks k).next_day m.0 m.2) in
+            subst (λ x. lost (day_number params first) p x ≤ CA_LOST_LIMIT) m.1 (t.next_day m.0 m.2) in
             omega arith)
       ]
     ]
-
--- under the way `defer` the marked days are those that lose too many minutes
-pub lost_is_marked : (params : Params) (first : ℕ) (h : List Activity) (marks : List Mark) (date : ℤ) → IsDeferWay params → KeepsAll params first h marks →
-    IsLostDay (day_number params first) (padded params h) date → Contains marks (DeferDay date)
-lost_is_marked (UsProperty berth days start) first h marks date d k l = absurd d
-lost_is_marked (Canada berth way cycle start) first h marks date d k l = ca_lost_is_marked berth way cycle start first h marks date k l
-lost_is_marked Hvnl first h marks date d k l = absurd d
 
 -- and they are known by their numbers
 pub defer_days : (params : Params) (first : ℕ) (h : List Activity) (marks : List Mark) → IsDeferWay params → KeepsAll params first h marks → (date : ℤ) (number : ℕ) → IsNumberOfDay date number →

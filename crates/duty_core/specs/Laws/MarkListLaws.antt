@@ -1,13 +1,13 @@
 -- Lists of marks: their order leaves one list with the same members, and the marks of a list that pass a fact are a list in order.
-use Rattle.std.proofs.Common.{◌≡◌, ℕ, ◌<◌, List, [], ◌∷◌, length, sym, refl, ◌∙◌, ap, subst, arith, inl, inr, ◌⊎◌, zero, suc, get_or}
+use Rattle.std.proofs.Common.{Bool, true, false, ◌≡◌, ℕ, ◌<◌, List, [], ◌∷◌, length, sym, refl, ◌∙◌, ap, subst, arith, inl, inr, ◌⊎◌, zero, suc, get_or}
 use Rattle.std.specs.Prelude.{◌<ℤ◌, Contains, AllPairs}
 use Rattle.std.proofs.lemmas.Int.{ints}
 use Rattle.std.proofs.lemmas.List.Elements.{Contains-get_or}
 use Rattle.std.proofs.lemmas.List.Kept.{AllPairs-cons}
 use Rattle.duty_core.specs.declared.mark.Mark.{Mark}
 use Rattle.duty_core.specs.declared.params.Params.{Params}
-use Rattle.duty_core.specs.declared.params.Params.TheVariants.{UsProperty, Canada, Hvnl}
-use Rattle.duty_core.specs.Marks.{mark_minute, AreInOrder, AreMarks}
+use Rattle.duty_core.specs.Params.{terms_of}
+use Rattle.duty_core.specs.Marks.{mark_minute, AreInOrder, AreMarksIf, AreMarks}
 
 -- # Members
 
@@ -120,14 +120,26 @@ pub same_marks : (params : Params) (marks others : List Mark) → AreInOrder par
     ((m : Mark) → Contains marks m → Contains others m) → ((m : Mark) → Contains others m → Contains marks m) → marks ≡ others
 same_marks params marks others = same_list (λ m n. mark_minute params m <ℤ mark_minute params n) (time_is_one_way params) marks others
 
+in_order_if : (has : Bool) (params : Params) (marks : List Mark) → AreMarksIf has params marks → AreInOrder params marks
+in_order_if true params marks h = h
+in_order_if false params marks h = λ i j d l k. absurd (let e : length marks ≡ 0 = ap length h in omega arith)
+
 -- marks of a book are in order
 pub marks_in_order : (params : Params) (marks : List Mark) → AreMarks params marks → AreInOrder params marks
-marks_in_order (UsProperty berth days start) marks h = h
-marks_in_order (Canada berth way cycle start) marks h = h
-marks_in_order Hvnl marks h = λ i j d l k. absurd (let e : length marks ≡ 0 = ap length h in omega arith)
+marks_in_order params marks h = in_order_if (terms_of params).has_marks params marks h
+
+of_part_if : (has : Bool) (params : Params) (marks part : List Mark) → AreMarksIf has params marks → AreInOrder params part → ((m : Mark) → Contains part m → Contains marks m) → AreMarksIf has params part
+of_part_if true params marks part h g f = g
+of_part_if false params marks part h g f = no_members part (λ m c. no_member m (subst (λ l. Contains l m) h (f m c)))
 
 -- some of the marks of a book, in order, are marks of it
 pub marks_of_part : (params : Params) (marks part : List Mark) → AreMarks params marks → AreInOrder params part → ((m : Mark) → Contains part m → Contains marks m) → AreMarks params part
-marks_of_part (UsProperty berth days start) marks part h g f = g
-marks_of_part (Canada berth way cycle start) marks part h g f = g
-marks_of_part Hvnl marks part h g f = no_members part (λ m c. no_member m (subst (λ l. Contains l m) h (f m c)))
+marks_of_part params marks part h g f = of_part_if (terms_of params).has_marks params marks part h g f
+
+none_if : (has : Bool) (params : Params) → AreMarksIf has params []
+none_if true params = λ i j d l m. absurd (omega arith)
+none_if false params = refl
+
+-- a history of any book may have no marks
+pub no_marks : (params : Params) → AreMarks params []
+no_marks params = none_if (terms_of params).has_marks params

@@ -1,5 +1,5 @@
 -- The minutes of the marks of a lawful history: none stands earlier than the padding and a day before its beginning, and each stands before the padding that follows it ends.
-use Rattle.std.proofs.Common.{◌≡◌, ℕ, zero, suc, ◌+◌, ◌-◌, ◌*◌, ◌/◌, ◌<◌, ◌≤◌, Bool, true, false, cond, ◌&&◌, ℤ, pos, ◌+ℤ◌, ◌-ℤ◌, List, length, refl, subst, arith}
+use Rattle.std.proofs.Common.{◌≡◌, ℕ, zero, suc, ◌+◌, ◌-◌, ◌*◌, ◌/◌, ◌<◌, ◌≤◌, Bool, true, false, cond, ◌&&◌, ℤ, pos, ◌+ℤ◌, ◌-ℤ◌, List, length, refl, ap, subst, arith}
 use Rattle.std.specs.Prelude.{Contains, nat_eq}
 use Rattle.std.proofs.lemmas.Bool.{and_parts, eqb-true}
 use Rattle.std.proofs.lemmas.Int.{ints}
@@ -7,9 +7,8 @@ use Rattle.duty_core.specs.declared.activity.Activity.{Activity}
 use Rattle.duty_core.specs.declared.mark.Mark.{Mark}
 use Rattle.duty_core.specs.declared.mark.Mark.TheVariants.{SplitRest, DeferDay}
 use Rattle.duty_core.specs.declared.params.Params.{Params}
-use Rattle.duty_core.specs.declared.params.Params.TheVariants.{UsProperty, Canada, Hvnl}
 use Rattle.duty_core.specs.declared.limits.TheConstants.{CA_LOST_LIMIT, DAY_MINUTES, PADDING_DAYS, PADDING_MINUTES}
-use Rattle.duty_core.specs.Params.{unit_minutes, AreGoodParams}
+use Rattle.duty_core.specs.Params.{InMinutes, minutes_in, units_in_day, terms_of, unit_minutes, AreGoodParams}
 use Rattle.duty_core.specs.History.{pad_days, pad_units, padded}
 use Rattle.duty_core.specs.Day.{day_start, day_number}
 use Rattle.duty_core.specs.Counting.{places}
@@ -19,8 +18,7 @@ use Rattle.duty_core.specs.MarkMeaning.{StandsIn}
 use Rattle.duty_core.specs.Lawful.{IsLawfulWith}
 use Rattle.duty_core.specs.Laws.HistoryLaws.{length-padded}
 use Rattle.duty_core.specs.Laws.RunLaws.{run_inside}
-use Rattle.duty_core.specs.Laws.MarkListLaws.{no_member}
-use Rattle.duty_core.specs.Laws.BookLaws.{are_true}
+use Rattle.duty_core.specs.Laws.BookFacts.{starts_in_day, marked_in_minutes, are_true}
 
 -- The mark stands at a minute from lo on and before hi.
 pub record StandsBetween (params : Params) (lo hi : ℕ) (mark : Mark) : Type 0 where
@@ -86,8 +84,6 @@ minutes_stand params first h (DeferDay date) one pads begins low s =
 pub lawful_marks_stand : (params : Params) (first : ℕ) (h : List Activity) (marks : List Mark) → AreGoodParams params → PADDING_MINUTES + DAY_MINUTES ≤ first → IsLawfulWith params first h marks →
     (m : Mark) → Contains marks m → StandsBetween params (first - (PADDING_MINUTES + DAY_MINUTES)) (first + length h + PADDING_MINUTES) m
 unfolding pad_days
-lawful_marks_stand (UsProperty berth days start) first h marks good low lawful m c =
-    minutes_stand (UsProperty berth days start) first h m refl refl good.2 low ((are_true (UsProperty berth days start) first h marks lawful).stands m c)
-lawful_marks_stand (Canada berth way cycle start) first h marks good low lawful m c =
-    minutes_stand (Canada berth way cycle start) first h m refl refl good.2 low ((are_true (Canada berth way cycle start) first h marks lawful).stands m c)
-lawful_marks_stand Hvnl first h marks good low lawful m c = absurd (no_member m (subst (λ l. Contains l m) lawful.marks_of_book c))
+lawful_marks_stand params first h marks good low lawful m c =
+    let e : (terms_of params).unit ≡ InMinutes = marked_in_minutes params marks m lawful.marks_of_book c in
+    minutes_stand params first h m (ap minutes_in e) (ap (λ u. pad_days * units_in_day u) e) (starts_in_day params good) low ((are_true params first h marks lawful).stands m c)

@@ -7,7 +7,6 @@ use Rattle.duty_core.specs.declared.activity.Activity.{Activity}
 use Rattle.duty_core.specs.declared.activity.Activity.TheVariants.{Off}
 use Rattle.duty_core.specs.declared.mark.Mark.TheVariants.{SplitRest, DeferDay}
 use Rattle.duty_core.specs.declared.params.Params.{Params}
-use Rattle.duty_core.specs.declared.params.Params.TheVariants.{UsProperty, Canada, Hvnl}
 use Rattle.duty_core.specs.declared.rule.Rule.{Rule}
 use Rattle.duty_core.specs.declared.rule.Rule.TheVariants.{UsWindow14, UsDrive11, UsBreak8, UsWeek, UsPair, CaDay13, CaDay14, CaShift13, CaShift14, CaElapsed16, CaOff10, CaDefer, CaPair, Ca24in14, CaCycle, Ca70without24, Au5h30, Au8h, Au11h, Au24h, Au24hRest, Au7d, Au7dRest, Au14d, Au14dNights}
 use Rattle.duty_core.specs.declared.limits.TheConstants.{CA_LOST_LIMIT}
@@ -17,12 +16,12 @@ use Rattle.duty_core.specs.Laws.HistoryLaws.{unit_at-after}
 use Rattle.duty_core.specs.Laws.ExistLaws.{padding_rest}
 use Rattle.duty_core.specs.RestRun.{IsRun}
 use Rattle.duty_core.specs.Day.{day_number}
-use Rattle.duty_core.specs.Marks.{IsSplitAt, AreMarks}
+use Rattle.duty_core.specs.Marks.{IsSplitAt}
 use Rattle.duty_core.specs.LostMinutes.{is_lost, lost}
 use Rattle.duty_core.specs.AuPeriods.{IsStart}
 use Rattle.duty_core.specs.RuleBooks.{rules_of, week_days, cycle_of, KeepsPadded, KeepsAll}
 use Rattle.duty_core.specs.Laws.PrefixLaws.{no_duty}
-use Rattle.duty_core.specs.Laws.MarkListLaws.{no_member}
+use Rattle.duty_core.specs.Laws.MarkListLaws.{no_member, no_marks}
 use Rattle.duty_core.specs.Laws.FrontLaws.{IsHead, run_before, places_stop, head_kept, and_false}
 use Rattle.duty_core.specs.Laws.RuleLaws.{us_window14_is_rule, us_drive11_is_rule, us_break8_is_rule, us_week_is_rule, ca_day13_is_rule, ca_day14_is_rule, ca_shift13_is_rule, ca_shift14_is_rule, ca_elapsed16_is_rule, ca_24in14_is_rule, ca_cycle_is_rule, ca_70without24_is_rule}
 
@@ -87,11 +86,6 @@ empty_is_rest params k = elim (cases_lt k (pad_units params)) [
   | inl l ↦ padding_rest params [] k (omega arith) l
   | inr l ↦ ap rests (unit_at-after (padding params ++ []) (pad_units params) k (omega (arith, length-append (padding params) [], length-replicate (pad_units params) Off)))
 ]
-
-no_marks : (params : Params) → AreMarks params []
-no_marks (UsProperty berth days start) = λ i j d l m. absurd (omega arith)
-no_marks (Canada berth way cycle start) = λ i j d l m. absurd (omega arith)
-no_marks Hvnl = refl
 
 -- the empty history keeps each book without marks
 pub empty_keeps : (params : Params) (first : ℕ) → KeepsAll params first [] []

@@ -1,5 +1,5 @@
 -- The rules of the United States and of Canada: their pairs and split rests are those of the two rules here.
-use Rattle.std.proofs.Common.{◌≡◌, ◌↔◌, ℕ, Bool, true, false, List, refl, arith}
+use Rattle.std.proofs.Common.{◌≡◌, ◌↔◌, ℕ, Bool, true, false, List, Some, refl, arith}
 use Rattle.std.specs.Prelude.{nat_le, ◌&&◌}
 use Rattle.duty_core.specs.declared.activity.Activity.{Activity}
 use Rattle.duty_core.specs.declared.params.Params.{Params}
@@ -51,13 +51,13 @@ pub record IsCaSplittable (params : Params) (p : List Activity) (from : ℕ) : T
   pub berth : IsBerth p from run.to
   pub split_way : IsSplitWay params
 
-way_means : (way : RestWay) → is_split_way way ≡ true → way ≡ Split
+way_means : (way : RestWay) → is_split_way way ≡ true → Some way ≡ Some Split
 way_means Split h = refl
 way_means Defer h = absurd (let z : false ≡ true = h in cc)
 
-way_from : (way : RestWay) → way ≡ Split → is_split_way way ≡ true
+way_from : (way : RestWay) → Some way ≡ Some Split → is_split_way way ≡ true
 way_from Split h = refl
-way_from Defer h = absurd (let z : Defer ≡ Split = h in cc)
+way_from Defer h = absurd (let z : Some Defer ≡ Some Split = h in cc)
 
 both_left : (a b : Bool) → (a && b) ≡ true → a ≡ true
 both_left true b h = refl
