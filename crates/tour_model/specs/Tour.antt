@@ -1,8 +1,7 @@
 -- The numbers that a tour may have.
 use Rattle.std.specs.Prelude.{ℕ, ◌+◌, ◌*◌, ◌≤◌, List, length, All, Contains}
 use Rattle.duty_core.specs.declared.params.Params.{Params}
-use Rattle.duty_core.specs.declared.params.Params.TheVariants.{UsProperty, Canada, Hvnl}
-use Rattle.duty_core.specs.Params.{BeginsUnit, AreGoodParams}
+use Rattle.duty_core.specs.Params.{BookUnit, InMinutes, InQuarters, terms_of, BeginsUnit, AreGoodParams}
 use Rattle.tour_model.specs.declared.limits.TheConstants.{GRIDS, HVNL_GRIDS, EARLIEST_START, LATEST_START, FEWEST_STOPS, MOST_STOPS, LONGEST_NAME, MOST_DRIVE, MOST_SERVICE, MOST_WINDOWS, LONGEST_TOUR}
 use Rattle.tour_model.specs.declared.window.Window.{Window}
 use Rattle.tour_model.specs.declared.stop.Stop.{Stop}
@@ -12,11 +11,14 @@ use Rattle.tour_model.specs.declared.tour.Tour.{Tour}
 abbrev pub IsParams : Params → Type 0
 IsParams params = AreGoodParams params
 
--- the lengths of a step that a tour of the book may have, in minutes
+-- the lengths of a step that a tour of the unit may have, in minutes
+abbrev pub grids_in : BookUnit → List ℕ
+grids_in InMinutes = GRIDS
+grids_in InQuarters = HVNL_GRIDS
+
+-- those of a tour of the book
 abbrev pub grids_of : Params → List ℕ
-grids_of (UsProperty berth days day_start) = GRIDS
-grids_of (Canada berth way cycle day_start) = GRIDS
-grids_of Hvnl = HVNL_GRIDS
+grids_of params = grids_in (terms_of params).unit
 
 -- a window of a service of so many steps of so many minutes: the service ends within the longest tour
 pub record IsWindow (grid service : ℕ) (w : Window) : Type 0 where

@@ -10,31 +10,27 @@ use Rattle.duty_core.specs.declared.activity.Activity.{Activity}
 use Rattle.duty_core.specs.declared.activity.Activity.TheVariants.{Serve}
 use Rattle.duty_core.specs.declared.limits.TheConstants.{LONGEST_HISTORY, LONGEST_LOG, MINUTE_LIMIT}
 use Rattle.duty_core.specs.declared.params.Params.{Params}
-use Rattle.duty_core.specs.declared.params.Params.TheVariants.{UsProperty, Canada, Hvnl}
-use Rattle.duty_core.specs.Params.{unit_minutes, BeginsUnit}
+use Rattle.duty_core.specs.Params.{BookUnit, InMinutes, InQuarters, minutes_in, terms_of, unit_minutes, BeginsUnit}
 use Rattle.duty_core.specs.History.{IsTimed}
 use Rattle.tour_model.specs.declared.limits.TheConstants.{LONGEST_TOUR, LATEST_START}
 use Rattle.tour_model.specs.declared.window.Window.{Window}
 use Rattle.tour_model.specs.declared.stop.Stop.{Stop}
 use Rattle.tour_model.specs.declared.tour.Tour.{Tour}
 use Rattle.tour_model.specs.Window.{is_within, is_open}
-use Rattle.tour_model.specs.Tour.{grids_of, IsWindow, IsStop, IsTour}
+use Rattle.tour_model.specs.Tour.{grids_in, IsWindow, IsStop, IsTour}
 use Rattle.tour_model.specs.Schedule.{ServesFrom, ServesTour, units_of, step_units, history_of, log_start}
 
 -- a step of a grid has at least one minute
-grid_some : (params : Params) (grid : ℕ) → Contains (grids_of params) grid → 1 ≤ grid
-grid_some (UsProperty berth days day_start) grid c =
-    All-contains (λ g. 1 ≤ g) (grids_of (UsProperty berth days day_start)) grid
+grid_some : (u : BookUnit) (grid : ℕ) → Contains (grids_in u) grid → 1 ≤ grid
+grid_some InMinutes grid c =
+    All-contains (λ g. 1 ≤ g) (grids_in InMinutes) grid
     (All-cons (λ g. 1 ≤ g) 1 (5 ∷ 15 ∷ 30 ∷ []) (omega arith) (All-cons (λ g. 1 ≤ g) 5 (15 ∷ 30 ∷ []) (omega arith) (All-cons (λ g. 1 ≤ g) 15 (30 ∷ []) (omega arith) (All-cons (λ g. 1 ≤ g) 30 [] (omega arith) (All-nil (λ g. 1 ≤ g)))))) c
-grid_some (Canada berth way cycle day_start) grid c =
-    All-contains (λ g. 1 ≤ g) (grids_of (Canada berth way cycle day_start)) grid
-    (All-cons (λ g. 1 ≤ g) 1 (5 ∷ 15 ∷ 30 ∷ []) (omega arith) (All-cons (λ g. 1 ≤ g) 5 (15 ∷ 30 ∷ []) (omega arith) (All-cons (λ g. 1 ≤ g) 15 (30 ∷ []) (omega arith) (All-cons (λ g. 1 ≤ g) 30 [] (omega arith) (All-nil (λ g. 1 ≤ g)))))) c
-grid_some Hvnl grid c =
-    All-contains (λ g. 1 ≤ g) (grids_of Hvnl) grid
+grid_some InQuarters grid c =
+    All-contains (λ g. 1 ≤ g) (grids_in InQuarters) grid
     (All-cons (λ g. 1 ≤ g) 15 (30 ∷ []) (omega arith) (All-cons (λ g. 1 ≤ g) 30 [] (omega arith) (All-nil (λ g. 1 ≤ g)))) c
 
 pub tour_grid_some : (tour : Tour) → IsTour tour → 1 ≤ tour.grid
-tour_grid_some tour t = grid_some tour.params tour.grid t.grid
+tour_grid_some tour t = grid_some (terms_of tour.params).unit tour.grid t.grid
 
 -- a service that begins in a window ends within the longest tour
 open_ends : (grid service : ℕ) (ws : List Window) (at : ℕ) → All (IsWindow grid service) ws → is_open ws at ≡ true → (at + service) * grid ≤ LONGEST_TOUR
@@ -96,10 +92,13 @@ units_short tour t xs s =
     let l = serves_short tour t xs s in
     omega arith
 
-units_minutes : (params : Params) (n : ℕ) → n ≤ unit_minutes params * n
-units_minutes (UsProperty berth days day_start) n = omega arith
-units_minutes (Canada berth way cycle day_start) n = omega arith
-units_minutes Hvnl n = omega arith
+-- a unit has at least a minute
+unit_some : (u : BookUnit) (n : ℕ) → n ≤ minutes_in u * n
+unit_some InMinutes n = omega arith
+unit_some InQuarters n = omega arith
+
+pub units_minutes : (params : Params) (n : ℕ) → n ≤ unit_minutes params * n
+units_minutes params n = unit_some (terms_of params).unit n
 
 -- The history of a log and of what serves the tour after it is not too long for the rules.
 pub history_short : (tour : Tour) → IsTour tour → (log xs : List Activity) → unit_minutes tour.params * length log ≤ LONGEST_LOG → ServesTour tour xs → length (history_of tour log xs) ≤ LONGEST_HISTORY
@@ -109,16 +108,17 @@ history_short tour t log xs l s =
     let m = units_minutes tour.params (length log) in
     omega arith
 
+sooner : (u : BookUnit) (at n units : ℕ) → at ≡ minutes_in u * units → at - minutes_in u * n ≡ minutes_in u * (units - n)
+sooner InMinutes at n units w = omega arith
+sooner InQuarters at n units w = omega arith
+
 -- Before a whole unit, so many units sooner, a whole unit begins.
 pub begins_sooner : (params : Params) (at n : ℕ) → BeginsUnit params at → BeginsUnit params (at - unit_minutes params * n)
-begins_sooner (UsProperty berth days day_start) at n b = let w = b.whole in record { units = b.units - n; whole = omega arith }
-begins_sooner (Canada berth way cycle day_start) at n b = let w = b.whole in record { units = b.units - n; whole = omega arith }
-begins_sooner Hvnl at n b = let w = b.whole in record { units = b.units - n; whole = omega arith }
+begins_sooner params at n b = record { units = b.units - n; whole = sooner (terms_of params).unit at n b.units b.whole }
 
-ends_soon : (params : Params) (at first n : ℕ) → at ≤ LATEST_START → first ≤ at → n ≤ LONGEST_HISTORY → first + unit_minutes params * n < MINUTE_LIMIT
-ends_soon (UsProperty berth days day_start) at first n a f l = omega arith
-ends_soon (Canada berth way cycle day_start) at first n a f l = omega arith
-ends_soon Hvnl at first n a f l = omega arith
+ends_soon : (u : BookUnit) (at first n : ℕ) → at ≤ LATEST_START → first ≤ at → n ≤ LONGEST_HISTORY → first + minutes_in u * n < MINUTE_LIMIT
+ends_soon InMinutes at first n a f l = omega arith
+ends_soon InQuarters at first n a f l = omega arith
 
 -- The rules may be asked of that history.
 pub history_timed : (tour : Tour) → IsTour tour → (log xs : List Activity) → unit_minutes tour.params * length log ≤ LONGEST_LOG → ServesTour tour xs →
@@ -128,7 +128,7 @@ history_timed tour t log xs l s =
     record {
       begins = begins_sooner tour.params tour.start (length log) t.whole_start;
       long = long;
-      ends = ends_soon tour.params tour.start (log_start tour log) (length (history_of tour log xs)) t.not_late (omega arith) long;
+      ends = ends_soon (terms_of tour.params).unit tour.start (log_start tour log) (length (history_of tour log xs)) t.not_late (omega arith) long;
     }
 
 -- The rules may be asked of the log.
@@ -139,5 +139,5 @@ log_timed tour t log l =
     record {
       begins = begins_sooner tour.params tour.start (length log) t.whole_start;
       long = long;
-      ends = ends_soon tour.params tour.start (log_start tour log) (length log) t.not_late (omega arith) long;
+      ends = ends_soon (terms_of tour.params).unit tour.start (log_start tour log) (length log) t.not_late (omega arith) long;
     }
