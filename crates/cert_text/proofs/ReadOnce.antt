@@ -1,8 +1,8 @@
 -- One certificate at most has the text.
-use Rattle.std.proofs.Common.{◌≡◌, ℕ, ◌<◌, List, Ok, Err, sym, ◌∙◌, arith}
+use Rattle.std.proofs.Common.{◌≡◌, ℕ, ◌<◌, List, Ok, Err, sym, ◌∙◌}
 use Rattle.duty_core.specs.declared.params.Params.{Params}
-use Rattle.duty_core.specs.declared.params.Params.TheVariants.{UsProperty, Canada, Hvnl}
 use Rattle.duty_core.specs.Day.{day_start}
+use Rattle.duty_core.specs.Laws.BookFacts.{starts_in_day}
 use Rattle.tour_model.specs.Tour.{IsParams}
 use Rattle.cert_text.specs.declared.cert.Cert.{Cert}
 use Rattle.cert_text.specs.Text.Form.{IsCertForm}
@@ -12,9 +12,7 @@ use Rattle.cert_text.specs.Text.Laws.CertTextLaws.{cert_again}
 
 -- a day of a tour begins before midnight
 pub start_low : (params : Params) → IsParams params → day_start params < 1440
-start_low (UsProperty berth days start) is = omega (arith, is.2)
-start_low (Canada berth way cycle start) is = omega (arith, is.2)
-start_low Hvnl is = omega arith
+start_low params is = starts_in_day params is
 
 pub one_cert : (params : Params) (bytes : List ℕ) (found cert : Cert) → day_start params < 1440 → cert_at params bytes ≡ Ok found → IsCertForm params cert → IsCertText params cert bytes → found ≡ cert
 one_cert params bytes found cert low e form text =

@@ -7,7 +7,7 @@ ghost use Rattle.cert_text.specs.Text.Reading.{Gives, time_at, mark_word_at, mar
 use crate::text::fault::Stop;
 use crate::text::words::{strip, word};
 use civil_minutes::{MINUTES_OF_CENTURY, day_of, minute_of_day, read_minute};
-use duty_core::{Mark, Marks, Minute, Params};
+use duty_core::{Mark, Marks, Minute, Params, day_start_of};
 use std::alloc::Global;
 
 /// Where a mark may stand: its least minute, and how many marks there are from it on.
@@ -22,16 +22,6 @@ pub struct MarkPlace {
 pub struct Marked {
     pub mark: Mark,
     pub at: Minute,
-}
-
-/// The minute after midnight at which the days of the book begin.
-pub fn day_start(params: Params) -> u16
-    ensures { result ≡ day_start params }
-{
-    match params {
-        Params::UsProperty { day_start, .. } | Params::Canada { day_start, .. } => day_start,
-        Params::Hvnl {} => 0,
-    }
 }
 
 /// The minute of the time at the front.
@@ -69,7 +59,7 @@ fn mark_of(params: Params, defers: bool, at: Minute) -> Option<Mark>
     requires { day_start params < 1440 }
     ensures { result ≡ mark_of params defers at }
 {
-    let start = day_start(params);
+    let start = day_start_of(params);
     if !defers {
         Some(Mark::SplitRest { at })
     } else if minute_of_day(at, start) == 0 {

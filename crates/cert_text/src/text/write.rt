@@ -11,9 +11,8 @@ ghost use Rattle.cert_text.specs.Text.Form.{IsMarkForm, AreMarkForms, IsLayerFor
 ghost use Rattle.cert_text.specs.Text.Spelling.{letter, number_line, kind_line, number_or_dash, target_line, run_line, mark_word, IsMarkLine, AreMarkLines, state_number, label_line, layer_head, layer_lines, layers_lines, schedule_lines, claim_lines, cover_lines, IsCertText};
 
 use crate::cert::{Cert, CertKind, CertLabel, CertLabels, StepRun};
-use crate::text::marks::day_start;
 use civil_minutes::{day_first, write_minute};
-use duty_core::{Activity, Mark, Minute, NoMemory, Params};
+use duty_core::{Activity, Mark, Minute, NoMemory, Params, day_start_of};
 use itoa::Buffer;
 use std::alloc::Global;
 use tour_model::Tour;
@@ -142,7 +141,7 @@ fn minute_of(params: Params, mark: Mark) -> Minute
 {
     match mark {
         Mark::SplitRest { at } => at,
-        Mark::DeferDay { day } => day_first(day, day_start(params)) as u32,
+        Mark::DeferDay { day } => day_first(day, day_start_of(params)) as u32,
     }
 }
 

@@ -1,5 +1,5 @@
 -- The search problem of a tour and a book has the laws that a search asks for.
-use Rattle.std.proofs.Common.{◌≡◌, ℕ, ◌+◌, ◌*◌, ◌/◌, ◌<◌, ◌≤◌, true, false, zero, suc, List, [], ◌∷◌, ◌++◌, length, length-append, replicate, refl, sym, ◌∙◌, ap, subst, arith}
+use Rattle.std.proofs.Common.{◌≡◌, ℕ, ◌+◌, ◌*◌, ◌/◌, ◌<◌, ◌≤◌, Bool, true, false, not, cond, zero, suc, List, [], ◌∷◌, ◌++◌, length, length-append, replicate, refl, sym, ◌∙◌, ap, subst, arith}
 use Rattle.std.specs.Prelude.{All, Contains}
 use Rattle.std.specs.Option.{option_to_list}
 use Rattle.std.proofs.lemmas.List.{length-replicate}
@@ -9,9 +9,8 @@ use Rattle.duty_core.specs.declared.activity.Activity.TheVariants.{Drive, Serve,
 use Rattle.duty_core.specs.declared.limits.TheConstants.{LONGEST_HISTORY}
 use Rattle.duty_core.specs.declared.mark.Mark.{Mark}
 use Rattle.duty_core.specs.declared.params.Params.{Params}
-use Rattle.duty_core.specs.declared.params.Params.TheVariants.{UsProperty, Canada, Hvnl}
 use Rattle.duty_core.specs.Activity.{idles}
-use Rattle.duty_core.specs.Params.{unit_minutes, allows}
+use Rattle.duty_core.specs.Params.{BookUnit, InMinutes, InQuarters, minutes_in, terms_of, unit_minutes, has_berth, allows}
 use Rattle.rule_core.specs.declared.nexts.Next.{Next}
 use Rattle.rule_core.specs.Reach.{idle_list, IsOneOf, Reaches, IsAnswered}
 use Rattle.rule_core.specs.Laws.ReachLaws.{reached_state}
@@ -21,7 +20,7 @@ use Rattle.rule_core.specs.Book.{IsBook}
 use Rattle.tour_model.specs.declared.tour.Tour.{Tour}
 use Rattle.tour_model.specs.declared.stop.Stop.{Stop}
 use Rattle.tour_model.specs.declared.piece.Piece.TheVariants as piece
-use Rattle.tour_model.specs.Tour.{grids_of, IsStop, IsTour}
+use Rattle.tour_model.specs.Tour.{grids_in, IsStop, IsTour}
 use Rattle.tour_model.specs.Word.{service_word, word_from, word_length, may_do, may_idle}
 use Rattle.tour_model.specs.Way.{progresses}
 use Rattle.tour_model.specs.Laws.WayLaws.{may_before, may_idle_all}
@@ -43,36 +42,35 @@ works_allowed params Wait w = absurd (let z : false ≡ true = w in cc)
 works_allowed params Off w = absurd (let z : false ≡ true = w in cc)
 works_allowed params Berth w = absurd (let z : false ≡ true = w in cc)
 
--- A step of so many minutes is a whole number of units, from 1 to 30.
-record AreUnits (params : Params) (grid : ℕ) : Type 0 where
-  whole : unit_minutes params * (grid / unit_minutes params) ≡ grid
-  some : 1 ≤ grid / unit_minutes params
-  few : grid / unit_minutes params ≤ 30
+-- A step of so many minutes is a whole number of units of so many minutes, from 1 to 30.
+record AreUnits (unit grid : ℕ) : Type 0 where
+  whole : unit * (grid / unit) ≡ grid
+  some : 1 ≤ grid / unit
+  few : grid / unit ≤ 30
 
-grid_units : (params : Params) (grid : ℕ) → Contains (grids_of params) grid → AreUnits params grid
-grid_units (UsProperty berth days day_start) grid c =
-    let P = λ (g : ℕ). AreUnits (UsProperty berth days day_start) g in
-    let unit = λ (g : ℕ) (some : 1 ≤ g) (few : g ≤ 30). let r : AreUnits (UsProperty berth days day_start) g = record { whole = omega arith; some = omega arith; few = omega arith } in r in
-    All-contains P (grids_of (UsProperty berth days day_start)) grid
+grid_units : (u : BookUnit) (grid : ℕ) → Contains (grids_in u) grid → AreUnits (minutes_in u) grid
+grid_units InMinutes grid c =
+    let P = λ (g : ℕ). AreUnits 1 g in
+    let unit = λ (g : ℕ) (some : 1 ≤ g) (few : g ≤ 30). let r : AreUnits 1 g = record { whole = omega arith; some = omega arith; few = omega arith } in r in
+    All-contains P (grids_in InMinutes) grid
     (All-cons P 1 (5 ∷ 15 ∷ 30 ∷ []) (unit 1 (omega arith) (omega arith)) (All-cons P 5 (15 ∷ 30 ∷ []) (unit 5 (omega arith) (omega arith)) (All-cons P 15 (30 ∷ []) (unit 15 (omega arith) (omega arith)) (All-cons P 30 [] (unit 30 (omega arith) (omega arith)) (All-nil P))))) c
-grid_units (Canada berth way cycle day_start) grid c =
-    let P = λ (g : ℕ). AreUnits (Canada berth way cycle day_start) g in
-    let unit = λ (g : ℕ) (some : 1 ≤ g) (few : g ≤ 30). let r : AreUnits (Canada berth way cycle day_start) g = record { whole = omega arith; some = omega arith; few = omega arith } in r in
-    All-contains P (grids_of (Canada berth way cycle day_start)) grid
-    (All-cons P 1 (5 ∷ 15 ∷ 30 ∷ []) (unit 1 (omega arith) (omega arith)) (All-cons P 5 (15 ∷ 30 ∷ []) (unit 5 (omega arith) (omega arith)) (All-cons P 15 (30 ∷ []) (unit 15 (omega arith) (omega arith)) (All-cons P 30 [] (unit 30 (omega arith) (omega arith)) (All-nil P))))) c
-grid_units Hvnl grid c =
-    let P = λ (g : ℕ). AreUnits Hvnl g in
-    All-contains P (grids_of Hvnl) grid
+grid_units InQuarters grid c =
+    let P = λ (g : ℕ). AreUnits 15 g in
+    All-contains P (grids_in InQuarters) grid
     (All-cons P 15 (30 ∷ []) (record { whole = refl; some = omega arith; few = omega arith }) (All-cons P 30 [] (record { whole = refl; some = omega arith; few = omega arith }) (All-nil P))) c
 
+-- the steps of a tour are such
+tour_units : (tour : Tour) → IsTour tour → AreUnits (unit_minutes tour.params) tour.grid
+tour_units tour t = grid_units (terms_of tour.params).unit tour.grid t.grid
+
 pub step_minutes : (tour : Tour) → IsTour tour → unit_minutes tour.params * step_units tour ≡ tour.grid
-step_minutes tour t = (grid_units tour.params tour.grid t.grid).whole
+step_minutes tour t = (tour_units tour t).whole
 
 pub step_some : (tour : Tour) → IsTour tour → 1 ≤ step_units tour
-step_some tour t = (grid_units tour.params tour.grid t.grid).some
+step_some tour t = (tour_units tour t).some
 
 pub step_few : (tour : Tour) → IsTour tour → step_units tour ≤ 30
-step_few tour t = (grid_units tour.params tour.grid t.grid).few
+step_few tour t = (tour_units tour t).few
 
 -- the minute at which the units of a step end
 units_end : (tour : Tour) → IsTour tour → (k : ℕ) → minute_of tour k + unit_minutes tour.params * step_units tour ≡ minute_of tour (k + 1)
@@ -134,19 +132,19 @@ step_tries tour m law i s k x t there d u h =
 idles_there : (tour : Tour) (k p : ℕ) (x : Activity) → may_idle tour p ≡ true → idles x ≡ true → may_do tour k p x ≡ true
 idles_there tour k p x h i = may_idle_all tour k p Wait x refl i h
 
+rest_idle_if : (berth : Bool) → idles (cond berth Berth Off) ≡ true
+rest_idle_if true = refl
+rest_idle_if false = refl
+
 rest_idle : (params : Params) → idles (tour_rest params) ≡ true
-rest_idle (UsProperty true days day_start) = refl
-rest_idle (UsProperty false days day_start) = refl
-rest_idle (Canada true way cycle day_start) = refl
-rest_idle (Canada false way cycle day_start) = refl
-rest_idle Hvnl = refl
+rest_idle params = rest_idle_if (has_berth params)
+
+rest_allowed_if : (params : Params) (berth : Bool) → has_berth params ≡ berth → allows params (cond berth Berth Off) ≡ true
+rest_allowed_if params true e = e
+rest_allowed_if params false e = ap not e
 
 rest_allowed : (params : Params) → allows params (tour_rest params) ≡ true
-rest_allowed (UsProperty true days day_start) = refl
-rest_allowed (UsProperty false days day_start) = refl
-rest_allowed (Canada true way cycle day_start) = refl
-rest_allowed (Canada false way cycle day_start) = refl
-rest_allowed Hvnl = refl
+rest_allowed params = rest_allowed_if params (has_berth params) refl
 
 -- Rest from one state for so many units that ends in a state where resting is still safe, and that covers t.
 record RestsFor {S : Type 0} (params : Params) (m : Machine S) (a : S) (at n : ℕ) (t : S) : Type 0 where
