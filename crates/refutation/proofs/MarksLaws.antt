@@ -1,16 +1,15 @@
 -- The marks of a lawful history can be written down: they stand in order at minutes of the years 2000 to 2099, and there are few of them.
-use Rattle.std.proofs.Common.{◌≡◌, ℕ, suc, ◌+◌, ◌-◌, ◌<◌, ◌≤◌, ℤ, pos, ◌<ℤ◌, List, [], ◌∷◌, length, sym, subst, arith}
+use Rattle.std.proofs.Common.{◌≡◌, ℕ, suc, ◌+◌, ◌-◌, ◌<◌, ◌≤◌, ℤ, pos, ◌<ℤ◌, List, [], ◌∷◌, length, subst, arith}
 use Rattle.std.specs.Prelude.{Contains}
 use Rattle.std.proofs.lemmas.Int.{ints}
 use Rattle.duty_core.specs.declared.activity.Activity.{Activity}
 use Rattle.duty_core.specs.declared.limits.TheConstants.{DAY_MINUTES, LONGEST_HISTORY, PADDING_MINUTES}
 use Rattle.duty_core.specs.declared.mark.Mark.{Mark}
 use Rattle.duty_core.specs.declared.params.Params.{Params}
-use Rattle.duty_core.specs.declared.params.Params.TheVariants.{UsProperty, Canada, Hvnl}
 use Rattle.duty_core.specs.Marks.{mark_minute, AreInOrder}
 use Rattle.duty_core.specs.Lawful.{IsLawfulWith}
 use Rattle.duty_core.specs.Params.{AreGoodParams}
-use Rattle.duty_core.specs.Laws.MarkListLaws.{contains_head, contains_after}
+use Rattle.duty_core.specs.Laws.MarkListLaws.{contains_head, contains_after, marks_in_order}
 use Rattle.duty_core.specs.Laws.MarkMinuteLaws.{StandsBetween, lawful_marks_stand}
 use Rattle.civil_minutes.specs.declared.century.TheConstants.{MINUTES_OF_CENTURY}
 use Rattle.rule_core.specs.declared.numbers.TheConstants.{NUMBER_LIMIT}
@@ -73,12 +72,5 @@ in_order params first n marks low long century order stands =
 
 -- the marks of each lawful history that begins late enough and ends early enough
 pub lawful_marks : (params : Params) (first : ℕ) (h : List Activity) (marks : List Mark) → AreGoodParams params → PADDING_MINUTES + DAY_MINUTES ≤ first → length h ≤ LONGEST_HISTORY → first + length h + PADDING_MINUTES ≤ MINUTES_OF_CENTURY → IsLawfulWith params first h marks → AreWritable params marks
-lawful_marks (UsProperty berth days start) first h marks good low long century lawful =
-    let params = UsProperty berth days start in
-    in_order params first (length h) marks low long century lawful.marks_of_book (lawful_marks_stand params first h marks good low lawful)
-lawful_marks (Canada berth way cycle start) first h marks good low long century lawful =
-    let params = Canada berth way cycle start in
-    in_order params first (length h) marks low long century lawful.marks_of_book (lawful_marks_stand params first h marks good low lawful)
-lawful_marks Hvnl first h marks good low long century lawful =
-    let none : marks ≡ [] = lawful.marks_of_book in
-    subst (AreWritable Hvnl) (sym none) (record { few = omega arith; forms = tt })
+lawful_marks params first h marks good low long century lawful =
+    in_order params first (length h) marks low long century (marks_in_order params marks lawful.marks_of_book) (lawful_marks_stand params first h marks good low lawful)
