@@ -8,10 +8,8 @@ use Rattle.civil_minutes.specs.declared.century.TheConstants.{MINUTES_OF_CENTURY
 use Rattle.duty_core.specs.declared.activity.Activity.{Activity}
 use Rattle.duty_core.specs.declared.limits.TheConstants.{DAY_MINUTES, LONGEST_HISTORY, LONGEST_LOG, PADDING_MINUTES}
 use Rattle.duty_core.specs.declared.mark.Mark.{Mark}
-use Rattle.duty_core.specs.declared.params.Params.{Params}
-use Rattle.duty_core.specs.declared.params.Params.TheVariants.{UsProperty, Canada, Hvnl}
 use Rattle.duty_core.specs.declared.rule.Rule.{Rule}
-use Rattle.duty_core.specs.Params.{unit_minutes, BeginsUnit}
+use Rattle.duty_core.specs.Params.{BookUnit, InMinutes, InQuarters, minutes_in, terms_of, unit_minutes, BeginsUnit}
 use Rattle.rule_readings.specs.declared.reading.Reading.{Reading}
 use Rattle.rule_readings.specs.Readings.{AreTimedBefore}
 use Rattle.cert_text.specs.Text.Form.{IsMarkForm}
@@ -19,7 +17,7 @@ use Rattle.tour_model.specs.declared.limits.TheConstants.{LONGEST_TOUR, LATEST_S
 use Rattle.tour_model.specs.declared.tour.Tour.{Tour}
 use Rattle.tour_model.specs.Tour.{IsTour}
 use Rattle.tour_model.specs.Schedule.{IsSolutionWith, units_of, step_units, history_of, log_start}
-use Rattle.tour_model.specs.Laws.LengthLaws.{serves_short, length-units, begins_sooner}
+use Rattle.tour_model.specs.Laws.LengthLaws.{serves_short, length-units, units_minutes, begins_sooner}
 use Rattle.report_text.proofs.MarkTimes.{mark_times}
 
 -- the history begins at a whole unit, early in time, and ends long before the year 2100
@@ -33,16 +31,9 @@ pub record IsPlaced (tour : Tour) (log xs : List Activity) : Type 0 where
   pub thereafter : length log ≤ length (history_of tour log xs)
 
 -- so many units after a log end within the century
-ends_before : (params : Params) (start l n : ℕ) → start ≤ LATEST_START → unit_minutes params * l ≤ start → n ≤ LONGEST_TOUR → (start - unit_minutes params * l) + unit_minutes params * (l + n) ≤ MINUTES_OF_CENTURY
-ends_before (UsProperty berth days day_start) start l n late inside short = omega arith
-ends_before (Canada berth way cycle day_start) start l n late inside short = omega arith
-ends_before Hvnl start l n late inside short = omega arith
-
--- a unit has at least a minute
-units_minutes : (params : Params) (n : ℕ) → n ≤ unit_minutes params * n
-units_minutes (UsProperty berth days day_start) n = omega arith
-units_minutes (Canada berth way cycle day_start) n = omega arith
-units_minutes Hvnl n = omega arith
+ends_before : (u : BookUnit) (start l n : ℕ) → start ≤ LATEST_START → minutes_in u * l ≤ start → n ≤ LONGEST_TOUR → (start - minutes_in u * l) + minutes_in u * (l + n) ≤ MINUTES_OF_CENTURY
+ends_before InMinutes start l n late inside short = omega arith
+ends_before InQuarters start l n late inside short = omega arith
 
 -- steps that are no longer than a tour have no more units than a tour has minutes
 units_few : (tour : Tour) (xs : List Activity) → length xs * tour.grid ≤ LONGEST_TOUR → length (units_of (step_units tour) xs) ≤ LONGEST_TOUR
@@ -65,7 +56,7 @@ placed tour t log xs short few =
       starts = starts;
       early = omega arith;
       long = omega (arith, whole, units, minutes, short);
-      ends = subst (λ n. log_start tour log + unit_minutes tour.params * n ≤ MINUTES_OF_CENTURY) (sym whole) (ends_before tour.params tour.start (length log) (length (units_of (step_units tour) xs)) late starts units);
+      ends = subst (λ n. log_start tour log + unit_minutes tour.params * n ≤ MINUTES_OF_CENTURY) (sym whole) (ends_before (terms_of tour.params).unit tour.start (length log) (length (units_of (step_units tour) xs)) late starts units);
       padded_ends = omega arith;
       thereafter = omega (arith, whole);
     }

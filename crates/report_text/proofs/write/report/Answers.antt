@@ -1,6 +1,3 @@
-use Rattle.std.specs.Prelude.{All}
-use Rattle.std.proofs.Common.{sym, subst}
-use Rattle.cert_text.specs.Text.Form.{IsMarkForm}
 use Rattle.tour_model.specs.Laws.LengthLaws.{serves_short}
 use Rattle.report_text.proofs.Placed.{solution_marks}
 use Rattle.report_text.proofs.write.report.Goals as goal
