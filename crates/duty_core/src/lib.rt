@@ -9,6 +9,7 @@ mod mark;
 mod memory;
 mod params;
 mod rule;
+mod try_vec;
 
 pub use activity::{Activity, is_duty, is_rest};
 pub use laws::{
@@ -35,3 +36,4 @@ pub use mark::{Day, Mark, Marks, Minute};
 pub use memory::NoMemory;
 pub use params::{Params, RestWay, allowed, day_start_of, has_berth, unit_of, way_of};
 pub use rule::Rule;
+pub use try_vec::TryVec;

@@ -1,9 +1,5 @@
 //! The marks of a history.
-ghost use Rattle.std.specs.Prelude.{◌≡◌, [], ◌∷◌, ◌++◌, OnOk, OnErr, IfOk};
-
-use crate::memory::NoMemory;
-use std::alloc::Global;
-use std::marker::Model;
+use crate::try_vec::TryVec;
 
 /// A civil minute: the number of minutes from 2000-01-01T00:00.
 pub type Minute = u32;
@@ -21,55 +17,7 @@ pub enum Mark {
 }
 
 /// The marks of a history, in the order of the history.
-#[derive(Drop)]
-pub struct Marks {
-    marks: Vec<Mark>,
-}
-
-impl Model for Marks {
-    ghost use Rattle.std.specs.Prelude.{List};
-    ghost use Rattle.duty_core.specs.declared.mark.Mark.{Mark};
-
-    ghost Value = { List Mark };
-
-    ghost view = { λ m. m.marks.items };
-}
-
-impl Marks {
-    /// No marks yet.
-    pub fn new(alloc: Global) -> Self
-        ensures { result ≡ [] }
-    {
-        Marks {
-            marks: Vec::new(alloc),
-        }
-    }
-
-    /// One more mark at the end. Where there is no memory for it, the marks stay as they were.
-    pub fn push(&mut self, item: Mark) -> Result<(), NoMemory>
-        ensures ok { OnOk result (self.new ≡ self.old ++ item ∷ []) }
-        ensures err { OnErr result (self.new ≡ self.old) }
-    {
-        self.marks.push(item)?;
-        Ok(())
-    }
-
-    /// The marks, in their order.
-    pub fn items(&self) -> &[Mark]
-        ensures { result.now ≡ self.now }
-    {
-        self.marks.as_slice()
-    }
-
-    /// Equal marks. `NoMemory` if there is none for them.
-    pub fn copy(&self) -> Result<Marks, NoMemory>
-        ensures { IfOk result (λ copy. copy ≡ self.now) }
-    {
-        Ok(Marks {
-            marks: self.marks.clone()?,
-        })
-    }
-}
+pub type Marks = TryVec<Mark>;
 
 #[cfg(test)]
 mod tests {
