@@ -72,7 +72,7 @@ fn roots_after<B: RuleBook>(
     requires { MayAdvance (B.machine book.now) at n roots }
     ensures { IfOk result (λ after. after ≡ roots_over (B.machine book.now) at act n roots) }
 {
-    let Roots { roots } = roots;
+    let roots = roots.into_vec();
     let mut after = Roots::new(alloc);
     for root in roots {
         let Root { state, marks } = root;

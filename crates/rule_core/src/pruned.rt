@@ -34,7 +34,7 @@ pub(crate) fn distinct<B: RuleBook>(
     ensures kept { IfOk result (ArePruned (λ a b. a ≡ b) roots) }
     ensures apart { IfOk result (AreApart (λ a b. a ≡ b)) }
 {
-    let Roots { roots } = roots;
+    let roots = roots.into_vec();
     let mut kept = Roots::new(alloc);
     let mut lists = Vec::new(alloc);
     for root in roots {
@@ -73,7 +73,7 @@ fn uncovered_by_earlier<B: RuleBook>(
     requires states { AreRootStates (B.machine book.now) at roots }
     ensures { IfOk result (AreUncovered (B.machine book.now) at roots) }
 {
-    let Roots { roots } = roots;
+    let roots = roots.into_vec();
     let mut kept = Roots::new(alloc);
     for root in roots {
         if is_covered(book, kept.items(), &root.state, at) {
@@ -94,7 +94,7 @@ pub(crate) fn uncovered<B: RuleBook>(
     requires states { AreRootStates (B.machine book.now) at roots }
     ensures { IfOk result (AreUncovered (B.machine book.now) at roots) }
 {
-    let Roots { mut roots } = uncovered_by_earlier(alloc, book, roots, at)?;
+    let mut roots = uncovered_by_earlier(alloc, book, roots, at)?.into_vec();
     roots.reverse();
-    uncovered_by_earlier(alloc, book, Roots { roots }, at)
+    uncovered_by_earlier(alloc, book, Roots::from_vec(roots), at)
 }

@@ -16,10 +16,10 @@ use Rattle.rule_core.proofs.pruned.uncovered_by_earlier.Goals.{In-Some}
 -- this iteration's root has a state of the minute
 state_here : (g : Over) (c : In-Some g) → (g.B.RuleBook.machine c.args.book.now).is_state c.in-Some.root.state c.args.at
 state_here g c =
-    let xs = c.roots.inside.roots.items in
+    let xs = c.into_vec-roots.result.items in
     let i = c.into_iter-root-iterator.ensures.into_iter_gives in
     let t = YieldsList-turn (YieldsList-from_vec {s = c.into_iter-root-iterator.result} xs i.0 (omega arith)) c.loop-root.yielded c.loop-root.root-iterator c.loop-root.yielded_by c.next.result c.next.new.self c.in-Some.root c.in-Some.is c.next.ensures.steps in
-    c.requires.states c.in-Some.root (subst (λ ys. IsOneOf ys c.in-Some.root) c.roots.view_is (one_of_item xs (length c.loop-root.yielded) c.in-Some.root t.0 t.1))
+    c.requires.states c.in-Some.root (subst (λ ys. IsOneOf ys c.in-Some.root) c.into_vec-roots.ensures (one_of_item xs (length c.loop-root.yielded) c.in-Some.root t.0 t.1))
 
 pub is_covered-requires-clause-state : goal.is_covered-requires-clause-state
 is_covered-requires-clause-state g c = state_here g (goal.at.is_covered-requires-clause-state g c).In-Some
@@ -57,11 +57,11 @@ loop-root-preserved g c =
 
 pub returns : goal.returns
 returns g c =
-    let xs = c.roots.inside.roots.items in
+    let xs = c.into_vec-roots.result.items in
     let i = c.into_iter-root-iterator.ensures.into_iter_gives in
     let t = YieldsList-end (YieldsList-from_vec {s = c.into_iter-root-iterator.result} xs i.0 (omega arith)) c.loop-root.yielded c.loop-root.root-iterator c.loop-root.yielded_by c.next.result c.next.new.self c.in-None.is c.next.ensures.steps in
     let whole : c.loop-root.yielded ≡ xs = sym (map-id c.loop-root.yielded) ∙ t.0 in
     record {
-      kept = subst (λ ys. ArePruned (λ a b. (g.B.RuleBook.machine c.args.book.now).covers a b c.args.at ≡ true) ys c.loop-root.kept) (whole ∙ c.roots.view_is) c.loop-root.invariant.kept;
+      kept = subst (λ ys. ArePruned (λ a b. (g.B.RuleBook.machine c.args.book.now).covers a b c.args.at ≡ true) ys c.loop-root.kept) (whole ∙ c.into_vec-roots.ensures) c.loop-root.invariant.kept;
       apart = c.loop-root.invariant.apart;
     }
