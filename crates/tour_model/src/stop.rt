@@ -1,53 +1,13 @@
 //! The stops of a tour.
-ghost use Rattle.std.specs.Prelude.{◌≡◌, ℕ, ◌+◌, ◌^◌, ◌<◌, ◌≤◌, [], ◌∷◌, ◌++◌, OnOk, OnErr};
+ghost use Rattle.std.specs.Prelude.{◌≡◌, ℕ, ◌+◌, ◌^◌, ◌<◌, ◌≤◌};
 ghost use Rattle.tour_model.specs.Stop.{IsSmall, piece_in, leaves_at};
 
 use crate::piece::Piece;
 use crate::window::Windows;
-use duty_core::NoMemory;
-use std::alloc::Global;
-use std::marker::Model;
+use duty_core::TryVec;
 
 /// The name of a stop, as bytes.
-#[derive(Drop)]
-pub struct Name {
-    bytes: Vec<u8>,
-}
-
-impl Model for Name {
-    ghost use Rattle.std.specs.Prelude.{List, ℕ};
-
-    ghost Value = { List ℕ };
-
-    ghost view = { λ n. n.bytes.items };
-}
-
-impl Name {
-    /// A name with no bytes yet.
-    pub fn new(alloc: Global) -> Self
-        ensures { result ≡ [] }
-    {
-        Name {
-            bytes: Vec::new(alloc),
-        }
-    }
-
-    /// One more byte at the end. Where there is no memory for it, the name stays as it was.
-    pub fn push(&mut self, item: u8) -> Result<(), NoMemory>
-        ensures ok { OnOk result (self.new ≡ self.old ++ item ∷ []) }
-        ensures err { OnErr result (self.new ≡ self.old) }
-    {
-        self.bytes.push(item)?;
-        Ok(())
-    }
-
-    /// The bytes of the name.
-    pub fn items(&self) -> &[u8]
-        ensures { result.now ≡ self.now }
-    {
-        self.bytes.as_slice()
-    }
-}
+pub type Name = TryVec<u8>;
 
 /// A stop of a tour: so many steps of driving to it, and so many of service there, which begins in
 /// one of its windows.
@@ -100,43 +60,4 @@ impl Stop {
 }
 
 /// The stops of a tour, in the order in which they are served.
-#[derive(Drop)]
-pub struct Stops {
-    stops: Vec<Stop>,
-}
-
-impl Model for Stops {
-    ghost use Rattle.std.specs.Prelude.{List};
-    ghost use Rattle.tour_model.specs.declared.stop.Stop.{Stop};
-
-    ghost Value = { List Stop };
-
-    ghost view = { λ s. s.stops.items };
-}
-
-impl Stops {
-    /// No stops yet.
-    pub fn new(alloc: Global) -> Self
-        ensures { result ≡ [] }
-    {
-        Stops {
-            stops: Vec::new(alloc),
-        }
-    }
-
-    /// One more stop at the end. Where there is no memory for it, the stops stay as they were.
-    pub fn push(&mut self, item: Stop) -> Result<(), NoMemory>
-        ensures ok { OnOk result (self.new ≡ self.old ++ item ∷ []) }
-        ensures err { OnErr result (self.new ≡ self.old) }
-    {
-        self.stops.push(item)?;
-        Ok(())
-    }
-
-    /// The stops, in their order.
-    pub fn items(&self) -> &[Stop]
-        ensures { result.now ≡ self.now }
-    {
-        self.stops.as_slice()
-    }
-}
+pub type Stops = TryVec<Stop>;
