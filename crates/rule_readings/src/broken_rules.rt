@@ -19,13 +19,15 @@ use crate::history::History;
 use crate::lost::LostMinutes;
 use crate::measure::{Asked, asked_of, order_of};
 use crate::padded::Padded;
-use crate::rules::Rules;
 use crate::scope::{Scope, Span};
 use crate::us_pair::keeps_us_pair;
 use crate::values::value_at;
-use duty_core::{Marks, Minute, NoMemory, Params, Rule};
+use duty_core::{Marks, Minute, NoMemory, Params, Rule, TryVec};
 use std::alloc::Global;
 use timeline::Timeline;
+
+/// Rules of a book, in the order of the book. Contracts see their list.
+pub type Rules = TryVec<Rule>;
 
 /// Whether a value, if there is one, is within the limit.
 fn is_within(asked: Asked, value: Option<u32>) -> bool

@@ -33,7 +33,6 @@ mod pairs;
 mod reading;
 #[cfg(test)]
 mod reading_tests;
-mod rules;
 mod scope;
 #[cfg(test)]
 mod tests;
@@ -41,7 +40,6 @@ mod us_pair;
 mod values;
 
 pub use book_readings::readings;
-pub use broken_rules::broken;
+pub use broken_rules::{Rules, broken};
 pub use laws::{day_off_is_told_two_ways, kept_rules_read_within, readings_are_one};
 pub use reading::{Reading, ReadingList};
-pub use rules::Rules;
