@@ -11,12 +11,14 @@ ghost use Rattle.cert_text.specs.CoverLists.Planning.{problem_of, minute_of, sta
 ghost use Rattle.cert_text.specs.CoverLists.Cover.{IsLabelAt};
 ghost use Rattle.label_extend.specs.Growths.{AreGrownAt};
 
-use crate::growths::Growths;
 use cert_text::{Grown, minute_at};
-use duty_core::{Activity, NoMemory, unit_of};
+use duty_core::{Activity, NoMemory, TryVec, unit_of};
 use rule_core::{Idles, Next, Nexts, RuleBook};
 use std::alloc::Global;
 use tour_model::{Label, Tour};
+
+/// Successors of a label, in their order. Contracts see their list.
+pub type Growths<S> = TryVec<Grown<S>>;
 
 /// The number of the book's units in a step of the tour.
 fn units_of_step(tour: &Tour) -> u32

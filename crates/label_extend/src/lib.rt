@@ -2,8 +2,6 @@
 #![tactic(auto)]
 
 mod extend;
-mod growths;
 
 pub use cert_text::Grown;
-pub use extend::successors;
-pub use growths::Growths;
+pub use extend::{Growths, successors};
