@@ -6,8 +6,7 @@ use Rattle.std.proofs.lemmas.List.{length-replicate}
 use Rattle.duty_core.specs.declared.activity.Activity.{Activity}
 use Rattle.duty_core.specs.declared.limits.TheConstants.{LONGEST_HISTORY}
 use Rattle.duty_core.specs.declared.params.Params.{Params}
-use Rattle.duty_core.specs.declared.params.Params.TheVariants.{UsProperty, Canada, Hvnl}
-use Rattle.duty_core.specs.Params.{unit_minutes}
+use Rattle.duty_core.specs.Params.{BookUnit, InMinutes, InQuarters, minutes_in, terms_of, unit_minutes}
 use Rattle.duty_log.specs.declared.fault.LogFault.{LogFault}
 use Rattle.duty_core.specs.declared.limits.TheConstants.{LONGEST_LOG}
 use Rattle.duty_log.specs.declared.row.Row.{Row}
@@ -26,22 +25,19 @@ IsSound params rows None units = (rows ≡ 0) × (units ≡ [])
 IsSound params rows (Some span) units = Fills params rows span units
 
 -- so many units are few
-few : (params : Params) (from to n : ℕ) → unit_minutes params * n + from ≡ to → to ≤ from + LONGEST_LOG → n ≤ LONGEST_LOG
-few (UsProperty berth days day_start) from to n e short = omega arith
-few (Canada berth way cycle day_start) from to n e short = omega arith
-few Hvnl from to n e short = omega arith
+few : (u : BookUnit) (from to n : ℕ) → minutes_in u * n + from ≡ to → to ≤ from + LONGEST_LOG → n ≤ LONGEST_LOG
+few InMinutes from to n e short = omega arith
+few InQuarters from to n e short = omega arith
 
 -- the units of a row fill its minutes
-row_filled : (params : Params) (from to : ℕ) → from < to → from % unit_minutes params ≡ 0 → to % unit_minutes params ≡ 0 → unit_minutes params * ((to - from) / unit_minutes params) + from ≡ to
-row_filled (UsProperty berth days day_start) from to some a b = omega arith
-row_filled (Canada berth way cycle day_start) from to some a b = omega arith
-row_filled Hvnl from to some a b = omega arith
+row_filled : (u : BookUnit) (from to : ℕ) → from < to → from % minutes_in u ≡ 0 → to % minutes_in u ≡ 0 → minutes_in u * ((to - from) / minutes_in u) + from ≡ to
+row_filled InMinutes from to some a b = omega arith
+row_filled InQuarters from to some a b = omega arith
 
 -- and those of the rows before with them fill all
-all_filled : (params : Params) (n k first from to : ℕ) → unit_minutes params * n + first ≡ from → unit_minutes params * k + from ≡ to → unit_minutes params * (n + k) + first ≡ to
-all_filled (UsProperty berth days day_start) n k first from to a b = omega arith
-all_filled (Canada berth way cycle day_start) n k first from to a b = omega arith
-all_filled Hvnl n k first from to a b = omega arith
+all_filled : (u : BookUnit) (n k first from to : ℕ) → minutes_in u * n + first ≡ from → minutes_in u * k + from ≡ to → minutes_in u * (n + k) + first ≡ to
+all_filled InMinutes n k first from to a b = omega arith
+all_filled InQuarters n k first from to a b = omega arith
 
 -- What is true after a row that may stand there.
 pub record StaysSound (params : Params) (rows : ℕ) (before : Option Span) (units : List Activity) (row : Row) : Type 0 where
@@ -56,8 +52,8 @@ stays : (params : Params) (rows first : ℕ) (before : Option Span) (units : Lis
     → first_of before row.from ≡ first → rows + first ≤ row.from → unit_minutes params * length units + first ≡ row.from → IsNext params before row → StaysSound params rows before units row
 stays params rows first before units row first_is counted filled h =
     let n : ℕ = (row.to - row.from) / unit_minutes params in
-    let here = row_filled params row.from row.to h.some h.begins h.ends in
-    let all = all_filled params (length units) n first row.from row.to filled here in
+    let here = row_filled (terms_of params).unit row.from row.to h.some h.begins h.ends in
+    let all = all_filled (terms_of params).unit (length units) n first row.from row.to filled here in
     let some = h.some in
     let short = h.short in
     let count = filled_length units n row.act in
@@ -65,7 +61,7 @@ stays params rows first before units row first_is counted filled h =
     let total : unit_minutes params * length (units ++ replicate n row.act) + first ≡ row.to = rw count all in
     record {
       sound = rw first_is record { counted = omega arith; short = close; filled = total };
-      room = (let least = few params first row.to (length units + n) all close in omega arith);
+      room = (let least = few (terms_of params).unit first row.to (length units + n) all close in omega arith);
     }
 
 none_filled : (params : Params) (from : ℕ) → unit_minutes params * 0 + from ≡ from
