@@ -9,9 +9,9 @@ use Rattle.std.proofs.lemmas.List.FromFn.{length-map-range_with_len, get_or-map-
 use Rattle.duty_core.specs.declared.activity.Activity.{Activity}
 use Rattle.duty_core.specs.declared.limits.TheConstants.{DAY_MINUTES}
 use Rattle.duty_core.specs.declared.params.Params.{Params}
-use Rattle.duty_core.specs.declared.params.Params.TheVariants.{UsProperty, Canada, Hvnl}
 use Rattle.duty_core.specs.Day.{day_start}
-use Rattle.duty_core.specs.Params.{AreGoodParams, BeginsUnit, unit_minutes}
+use Rattle.duty_core.specs.Laws.BookFacts.{begins_whole, starts_in_day}
+use Rattle.duty_core.specs.Params.{BookUnit, InMinutes, InQuarters, minutes_in, terms_of, AreGoodParams, BeginsUnit, unit_minutes}
 use Rattle.log_graph.specs.Graph.{day_begin, count_days, days_of}
 use Rattle.log_graph.specs.Days.{BeginsDay, HoldsUnit}
 
@@ -46,12 +46,6 @@ days_rise begin n k lt =
 
 -- ---- the first day
 
--- a day begins within a day
-start_within : (params : Params) → AreGoodParams params → day_start params < DAY_MINUTES
-start_within (UsProperty berth days start) good = good.2
-start_within (Canada berth way cycle start) good = good.2
-start_within Hvnl good = omega arith
-
 -- The day of a minute begins at the minute or before it, and less than a day before.
 record IsDayOf (params : Params) (at begin : ℕ) : Type 0 where
   pub begins : BeginsDay params begin
@@ -61,7 +55,7 @@ record IsDayOf (params : Params) (at begin : ℕ) : Type 0 where
 day_found : (params : Params) (at : ℕ) → AreGoodParams params → DAY_MINUTES ≤ at → IsDayOf params at (day_begin params at)
 day_found params at good early =
     let start = day_start params in
-    let within : start < DAY_MINUTES = start_within params good in
+    let within : start < DAY_MINUTES = starts_in_day params good in
     record {
       begins = record { days = (at + (DAY_MINUTES - start)) / DAY_MINUTES - 1; whole = omega arith };
       after = omega arith;
@@ -71,29 +65,33 @@ day_found params at good early =
 -- ---- the days with units
 
 -- A unit that begins in a day ends in it.
-unit_ends : (params : Params) (first day unit : ℕ) → AreGoodParams params → BeginsUnit params first → BeginsDay params day → first + unit_minutes params * unit < day + DAY_MINUTES → first + unit_minutes params * (unit + 1) ≤ day + DAY_MINUTES
-unit_ends (UsProperty berth days start) first day unit good units begins lt = omega arith
-unit_ends (Canada berth way cycle start) first day unit good units begins lt = omega arith
-unit_ends Hvnl first day unit good units begins lt = let a = units.whole in let b = begins.whole in omega arith
+ends_in : (u : BookUnit) (k s d first start day unit : ℕ) → first ≡ minutes_in u * k → start ≡ minutes_in u * s → day ≡ start + DAY_MINUTES * d → first + minutes_in u * unit < day + DAY_MINUTES → first + minutes_in u * (unit + 1) ≤ day + DAY_MINUTES
+ends_in InMinutes k s d first start day unit a b c lt = omega arith
+ends_in InQuarters k s d first start day unit a b c lt = omega arith
+
+unit_ends : (params : Params) (first day unit : ℕ) → BeginsUnit params first → BeginsDay params day → first + unit_minutes params * unit < day + DAY_MINUTES → first + unit_minutes params * (unit + 1) ≤ day + DAY_MINUTES
+unit_ends params first day unit units begins lt =
+    let starts = begins_whole params in
+    ends_in (terms_of params).unit units.units starts.units begins.days first (day_start params) day unit units.whole starts.whole begins.whole lt
 
 -- a day that begins after the history's first minute and before its end begins with a unit of it
-unit_begins : (params : Params) (first day n : ℕ) → AreGoodParams params → BeginsUnit params first → BeginsDay params day → first ≤ day → day < first + unit_minutes params * n → (unit : ℕ) × (unit < n) × (day ≡ first + unit_minutes params * unit)
-unit_begins (UsProperty berth days start) first day n good units begins after before = (day - first, omega arith, omega arith)
-unit_begins (Canada berth way cycle start) first day n good units begins after before = (day - first, omega arith, omega arith)
-unit_begins Hvnl first day n good units begins after before =
-    let a = units.whole in let b = begins.whole in
-    (96 * begins.days - units.units, omega arith, omega arith)
+begins_in : (u : BookUnit) (k s d first start day n : ℕ) → first ≡ minutes_in u * k → start ≡ minutes_in u * s → day ≡ start + DAY_MINUTES * d → first ≤ day → day < first + minutes_in u * n → (unit : ℕ) × (unit < n) × (day ≡ first + minutes_in u * unit)
+begins_in InMinutes k s d first start day n a b c after before = (day - first, omega arith, omega arith)
+begins_in InQuarters k s d first start day n a b c after before = (s + 96 * d - k, omega arith, omega arith)
+
+unit_begins : (params : Params) (first day n : ℕ) → BeginsUnit params first → BeginsDay params day → first ≤ day → day < first + unit_minutes params * n → (unit : ℕ) × (unit < n) × (day ≡ first + unit_minutes params * unit)
+unit_begins params first day n units begins after before =
+    let starts = begins_whole params in
+    begins_in (terms_of params).unit units.units starts.units begins.days first (day_start params) day n units.whole starts.whole begins.whole after before
 
 -- units have minutes
-some_minutes : (params : Params) (unit : ℕ) → 0 < unit_minutes params * (unit + 1)
-some_minutes (UsProperty berth days start) unit = omega arith
-some_minutes (Canada berth way cycle start) unit = omega arith
-some_minutes Hvnl unit = omega arith
+some_minutes : (u : BookUnit) (unit : ℕ) → 0 < minutes_in u * (unit + 1)
+some_minutes InMinutes unit = omega arith
+some_minutes InQuarters unit = omega arith
 
-more_minutes : (params : Params) (unit n : ℕ) → unit < n → unit_minutes params * unit < unit_minutes params * n
-more_minutes (UsProperty berth days start) unit n lt = omega arith
-more_minutes (Canada berth way cycle start) unit n lt = omega arith
-more_minutes Hvnl unit n lt = omega arith
+more_minutes : (u : BookUnit) (unit n : ℕ) → unit < n → minutes_in u * unit < minutes_in u * n
+more_minutes InMinutes unit n lt = omega arith
+more_minutes InQuarters unit n lt = omega arith
 
 -- so many days are counted that each begins before the history's end
 counted_below : (minutes n k : ℕ) → k < cond (n == 0) 0 ((minutes + (DAY_MINUTES - 1)) / DAY_MINUTES) → (0 < n) × (DAY_MINUTES * k < minutes)
@@ -124,10 +122,10 @@ shown_day params first h day good units found a =
       here,
       elim (cases_lt first day) [
         | inl later ↦
-            let u = unit_begins params first day (length h) good units here (omega arith) (omega arith) in
+            let u = unit_begins params first day (length h) units here (omega arith) (omega arith) in
             let there = u.2 in
-            record { unit = u.0; there = u.1; after = omega arith; before = unit_ends params first day u.0 good units here (omega arith) }
-        | inr sooner ↦ record { unit = 0; there = some; after = omega arith; before = unit_ends params first day 0 good units here (omega arith) }
+            record { unit = u.0; there = u.1; after = omega arith; before = unit_ends params first day u.0 units here (omega arith) }
+        | inr sooner ↦ record { unit = 0; there = some; after = omega arith; before = unit_ends params first day 0 units here (omega arith) }
       ],
     )
 
@@ -140,8 +138,8 @@ day_shown params first h day found begins holds =
     let near : first < begin + DAY_MINUTES = found.near in
     let first_day : begin ≡ day_start params + DAY_MINUTES * found.begins.days = found.begins.whole in
     let whole = begins.whole in
-    let some = some_minutes params holds.unit in
-    let more = more_minutes params holds.unit (length h) holds.there in
+    let some = some_minutes (terms_of params).unit holds.unit in
+    let more = more_minutes (terms_of params).unit holds.unit (length h) holds.there in
     let from = holds.after in
     let to = holds.before in
     let is : day ≡ begin + DAY_MINUTES * (begins.days - found.begins.days) = omega arith in

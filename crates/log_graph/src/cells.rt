@@ -8,7 +8,7 @@ ghost use Rattle.log_graph.specs.Graph.{cell, day_begin, is_shown, minutes_shown
 
 use crate::status::Status;
 use civil_minutes::minute_of_day;
-use duty_core::{Minute, Params, unit_of};
+use duty_core::{Minute, Params, day_start_of, unit_of};
 use timeline::Timeline;
 
 /// The number of cells of a row: one for each quarter of an hour of a day.
@@ -17,16 +17,13 @@ pub const CELLS: u32 = 96;
 /// The length of a cell, in minutes.
 pub const CELL_MINUTES: u32 = 15;
 
-/// How many minutes after midnight a day of the book begins. Australia's days begin at midnight.
+/// How many minutes after midnight a day of the book begins, which is before the next midnight.
 pub fn day_start(params: Params) -> u16
     requires { AreGoodParams params }
     ensures value { result ≡ day_start params }
     ensures within { result < DAY_MINUTES }
 {
-    match params {
-        Params::UsProperty { day_start, .. } | Params::Canada { day_start, .. } => day_start,
-        Params::Hvnl {} => 0,
-    }
+    day_start_of(params)
 }
 
 /// The first minute of the day that holds a civil minute.
