@@ -1,5 +1,5 @@
 -- What is told of a log that breaks a rule.
-use Rattle.std.proofs.Common.{◌≡◌, ℕ, ◌+◌, ◌-◌, ◌*◌, ◌<◌, ◌≤◌, List, [], ◌∷◌, ◌++◌, length, take, zero, suc, refl, arith, inl, inr, ◌∙◌, ap, sym, subst}
+use Rattle.std.proofs.Common.{◌≡◌, ℕ, ◌+◌, ◌-◌, ◌*◌, ◌<◌, ◌≤◌, Bool, true, false, List, [], ◌∷◌, ◌++◌, length, take, zero, suc, refl, arith, inl, inr, ◌∙◌, ap, sym, subst}
 use Rattle.std.specs.Prelude.{All}
 use Rattle.std.proofs.lemmas.List.{length-take-le}
 use Rattle.std.proofs.lemmas.List.Elements.{All-nil, All-cons}
@@ -8,10 +8,9 @@ use Rattle.duty_core.specs.declared.activity.Activity.{Activity}
 use Rattle.duty_core.specs.declared.limits.TheConstants.{LONGEST_LOG, LONGEST_HISTORY, DAY_MINUTES}
 use Rattle.duty_core.specs.declared.mark.Mark.{Mark}
 use Rattle.duty_core.specs.declared.params.Params.{Params}
-use Rattle.duty_core.specs.declared.params.Params.TheVariants.{UsProperty, Canada, Hvnl}
 use Rattle.duty_core.specs.declared.rule.Rule.{Rule}
-use Rattle.duty_core.specs.Marks.{AreMarks}
-use Rattle.duty_core.specs.Params.{unit_minutes, BeginsUnit}
+use Rattle.duty_core.specs.Marks.{AreMarksIf, AreMarks}
+use Rattle.duty_core.specs.Params.{BookUnit, InMinutes, InQuarters, minutes_in, terms_of, unit_minutes, BeginsUnit}
 use Rattle.duty_core.specs.RuleBooks.{rules_of, Keeps}
 use Rattle.rule_core.specs.Replay.{IsFirstUnlawful}
 use Rattle.rule_readings.specs.Broken.{AreBroken}
@@ -29,10 +28,12 @@ none_broken Kept [] h = All-nil Kept
 none_broken Kept (rule ∷ rules) (inl h) = All-cons Kept rule rules h.0 (none_broken Kept rules h.1)
 none_broken Kept (rule ∷ rules) (inr h) = let e = h.1.1 in absurd (let e2 : [] ≡ rule ∷ h.1.0 = e in cc)
 
+none_if : (b : Bool) (params : Params) → AreMarksIf b params []
+none_if true params = λ i j d l m. absurd (omega arith)
+none_if false params = refl
+
 no_marks : (params : Params) → AreMarks params []
-no_marks (UsProperty berth days start) = λ i j d l m. absurd (omega arith)
-no_marks (Canada berth way cycle start) = λ i j d l m. absurd (omega arith)
-no_marks Hvnl = refl
+no_marks params = none_if (terms_of params).has_marks params
 
 some_of : (Kept : Rule → Type 0) (book rules : List Rule) → (All Kept book → ⊥) → AreBroken Kept book rules → 0 < length rules
 some_of Kept book [] never broken = absurd (never (none_broken Kept book broken))
@@ -52,10 +53,9 @@ pub record IsFrontTimed (tour : Tour) (log : List Activity) (n : ℕ) : Type 0 w
   pub early : DAY_MINUTES ≤ log_start tour log
   pub ends : log_start tour log + unit_minutes tour.params * length (take n log) ≤ MINUTES_OF_CENTURY
 
-ends_before : (params : Params) (start l n : ℕ) → start ≤ LATEST_START → unit_minutes params * l ≤ start → n ≤ l → (start - unit_minutes params * l) + unit_minutes params * n ≤ MINUTES_OF_CENTURY
-ends_before (UsProperty berth days day_start) start l n late inside short = omega arith
-ends_before (Canada berth way cycle day_start) start l n late inside short = omega arith
-ends_before Hvnl start l n late inside short = omega arith
+ends_before : (u : BookUnit) (start l n : ℕ) → start ≤ LATEST_START → minutes_in u * l ≤ start → n ≤ l → (start - minutes_in u * l) + minutes_in u * n ≤ MINUTES_OF_CENTURY
+ends_before InMinutes start l n late inside short = omega arith
+ends_before InQuarters start l n late inside short = omega arith
 
 pub front_timed : (tour : Tour) (log : List Activity) (n : ℕ) → IsTour tour → unit_minutes tour.params * length log ≤ LONGEST_LOG → n ≤ length log → IsFrontTimed tour log n
 front_timed tour log n t short within =
@@ -66,5 +66,5 @@ front_timed tour log n t short within =
       long = timed.long;
       begins = timed.begins;
       early = omega arith;
-      ends = rw some (ends_before tour.params tour.start (length log) n t.not_late (omega arith) within);
+      ends = rw some (ends_before (terms_of tour.params).unit tour.start (length log) n t.not_late (omega arith) within);
     }

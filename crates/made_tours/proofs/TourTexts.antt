@@ -20,7 +20,8 @@ use Rattle.tour_reader.specs.declared.written.WrittenStop.{WrittenStop}
 use Rattle.tour_reader.specs.Checks.{stop_names, first_repeated, with_repeated, distinct, ends_late, first_late, with_late, in_time}
 use Rattle.tour_reader.specs.Fields.{with_fields}
 use Rattle.tour_reader.specs.Gives.{◌>>=◌}
-use Rattle.tour_reader.specs.Head.{book_of, grid_of, start_of, day_start_of, us_params, head_in, head_of}
+use Rattle.tour_reader.specs.Books.{day_start_of, us_params}
+use Rattle.tour_reader.specs.Head.{book_of, grid_of, start_of, head_in, head_of}
 use Rattle.tour_reader.specs.Rounding.{stop_of, tour_from}
 use Rattle.tour_reader.specs.Times.{clock_of}
 use Rattle.tour_reader.specs.Tour.{object_from, form_of, tour_in, tour_of}

@@ -6,22 +6,23 @@ use Rattle.std.proofs.lemmas.Result.{IfOk-weaker}
 use Rattle.serde_json.specs.Data.{Data}
 use Rattle.duty_core.specs.declared.params.Params.{Params}
 use Rattle.duty_core.specs.declared.params.Params.TheVariants as params
-use Rattle.duty_core.specs.Params.{unit_minutes, BeginsUnit}
+use Rattle.duty_core.specs.Params.{BookUnit, InMinutes, InQuarters, minutes_in, terms_of, BeginsUnit}
 use Rattle.duty_core.specs.declared.limits.TheConstants.{DAY_MINUTES}
 use Rattle.tour_model.specs.declared.limits.TheConstants.{FEWEST_DAYS, MOST_DAYS, MOST_CYCLE, EARLIEST_START, LATEST_START}
-use Rattle.tour_model.specs.Tour.{IsParams, grids_of}
+use Rattle.tour_model.specs.Tour.{IsParams, grids_in, grids_of}
 use Rattle.tour_reader.specs.declared.field.Field.{Field}
 use Rattle.tour_reader.specs.declared.field.Field.TheVariants as field
 use Rattle.tour_reader.specs.declared.book.Book.{Book}
 use Rattle.tour_reader.specs.declared.book.Book.TheVariants.{Us, Canada, Hvnl}
 use Rattle.tour_reader.specs.declared.head.Head.{Head}
-use Rattle.tour_reader.specs.Fields.{fields_of, with_fields}
+use Rattle.tour_reader.specs.Fields.{with_fields}
+use Rattle.tour_reader.specs.Books.{book_unit, fields_of, grids_of_book, unit_of_book, berth_of, day_start_of, way_named, us_params, canada_params, params_of}
 use Rattle.tour_reader.specs.Gives.{◌>>=◌, good}
 use Rattle.tour_reader.specs.Values.{number_of, whole_of, text_of, within}
 use Rattle.civil_minutes.specs.TimeOf.{time_of}
 use Rattle.tour_reader.specs.Times.{pair_of, minutes_of, clock_of}
 use Rattle.civil_minutes.specs.Laws.TimeOfLaws.{parts, lt_from}
-use Rattle.tour_reader.specs.Head.{book_of, grids_of_book, unit_of_book, one_of, grid_of, on_unit, start_of, berth_of, day_start_of, way_named, us_params, canada_params, params_of, head_in, head_of}
+use Rattle.tour_reader.specs.Head.{book_of, one_of, grid_of, on_unit, start_of, head_in, head_of}
 use Rattle.tour_reader.proofs.Holds.{any_some, if_holds, guard_holds, then_holds, within_holds, any_ok, good_holds, bind_holds}
 
 -- what holds of each head
@@ -35,8 +36,7 @@ pub record IsHead (head : Head) : Type 0 where
 -- the parameters are some of the book
 record FitsBook (book : Book) (params : Params) : Type 0 where
   pub is : IsParams params
-  pub grids : grids_of params ≡ grids_of_book book
-  pub unit : unit_minutes params ≡ unit_of_book book
+  pub unit : (terms_of params).unit ≡ book_unit book
 
 -- where a day may begin, and how many days are counted
 abbrev IsDayStart : ℕ → Type 0
@@ -78,7 +78,7 @@ us_fits form =
     bind_holds AreDays (FitsBook Us) (good field.Days None (whole_of field.Days FEWEST_DAYS MOST_DAYS form)) (λ days. day_start_of form >>= λ day_start. Ok (params.UsProperty berth days day_start))
     (good_holds AreDays field.Days None (whole_of field.Days FEWEST_DAYS MOST_DAYS form) (whole_within field.Days FEWEST_DAYS MOST_DAYS form)) (λ days counted.
     bind_holds IsDayStart (FitsBook Us) (day_start_of form) (λ day_start. Ok (params.UsProperty berth days day_start)) (day_start_within form) (λ day_start begins.
-    record { is = (counted.0, counted.1, begins); grids = refl; unit = refl })))
+    record { is = (counted.0, counted.1, begins); unit = refl })))
 
 canada_fits : (form : Data) → IfOk (canada_params form) (FitsBook Canada)
 unfolding canada_params
@@ -90,12 +90,12 @@ canada_fits form =
     bind_holds IsCycle (FitsBook Canada) cycle_is (λ cycle. day_start_of form >>= λ day_start. Ok (params.Canada berth way cycle day_start))
     (good_holds IsCycle field.Cycle None (whole_of field.Cycle 1 MOST_CYCLE form) (whole_within field.Cycle 1 MOST_CYCLE form)) (λ cycle counted.
     bind_holds IsDayStart (FitsBook Canada) (day_start_of form) (λ day_start. Ok (params.Canada berth way cycle day_start)) (day_start_within form) (λ day_start begins.
-    record { is = (counted.0, counted.1, begins); grids = refl; unit = refl }))))
+    record { is = (counted.0, counted.1, begins); unit = refl }))))
 
 params_fit : (book : Book) (form : Data) → IfOk (params_of book form) (FitsBook book)
 params_fit Us form = us_fits form
 params_fit Canada form = canada_fits form
-params_fit Hvnl form = record { is = tt; grids = refl; unit = refl }
+params_fit Hvnl form = record { is = tt; unit = refl }
 
 abbrev IsGridOf : Book → ℕ → Type 0
 IsGridOf book grid = Contains (grids_of_book book) grid
@@ -118,16 +118,15 @@ start_fits book form = good_holds (IsStartOf book) field.Start None (option_and_
     (then_holds (λ _. Unit {0}) (λ at. (EARLIEST_START ≤ at) × (at ≤ LATEST_START)) (within EARLIEST_START LATEST_START) (option_and_then time_of (text_of field.Start form)) (any_some _) (λ at _. within_holds EARLIEST_START LATEST_START at))
     (λ at p. if_holds (IsStartOf book) _ at (λ b. record { on_unit = eqb-true _ _ b; not_early = p.0; not_late = p.1 })))
 
-whole_units : (book : Book) (at : ℕ) → at % unit_of_book book ≡ 0 → at ≡ unit_of_book book * (at / unit_of_book book)
-whole_units Us at whole = omega arith
-whole_units Canada at whole = omega arith
-whole_units Hvnl at whole = omega arith
+whole_units : (u : BookUnit) (at : ℕ) → at % minutes_in u ≡ 0 → at ≡ minutes_in u * (at / minutes_in u)
+whole_units InMinutes at whole = omega arith
+whole_units InQuarters at whole = omega arith
 
 made_head : (book : Book) (grid start : ℕ) (params : Params) → IsGridOf book grid → IsStartOf book start → FitsBook book params → IsHead (record { params = params; grid = grid; start = start })
 made_head book grid start params g s p = record {
   params = p.is;
-  grid = rw p.grids g;
-  whole_start = record { units = start / unit_of_book book; whole = rw p.unit (whole_units book start s.on_unit) };
+  grid = subst (λ u. Contains (grids_in u) grid) (sym p.unit) g;
+  whole_start = record { units = start / unit_of_book book; whole = subst (λ u. start ≡ minutes_in u * (start / unit_of_book book)) (sym p.unit) (whole_units (book_unit book) start s.on_unit) };
   not_early = s.not_early;
   not_late = s.not_late;
 }
@@ -168,10 +167,12 @@ of_two zero grid lt is = subst IsGrid is fifteen
 of_two (suc zero) grid lt is = subst IsGrid is thirty
 of_two (suc (suc k)) grid lt is = absurd (omega arith)
 
+grid_in : (u : BookUnit) (grid : ℕ) → Contains (grids_in u) grid → IsGrid grid
+grid_in InMinutes grid (k, lt, is) = of_four k grid lt is
+grid_in InQuarters grid (k, lt, is) = of_two k grid lt is
+
 pub is_grid : (params : Params) (grid : ℕ) → Contains (grids_of params) grid → IsGrid grid
-is_grid (params.UsProperty berth days day_start) grid (k, lt, is) = of_four k grid lt is
-is_grid (params.Canada berth way cycle day_start) grid (k, lt, is) = of_four k grid lt is
-is_grid params.Hvnl grid (k, lt, is) = of_two k grid lt is
+is_grid params = grid_in (terms_of params).unit
 
 -- what holds at each of the grids holds at one of them
 pub at_grid : (P : ℕ → Type 0) → P 1 → P 5 → P 15 → P 30 → (grid : ℕ) → IsGrid grid → P grid

@@ -18,9 +18,10 @@ use Rattle.tour_reader.specs.declared.head.Head.{Head}
 use Rattle.tour_reader.specs.declared.written.Span.{Span}
 use Rattle.tour_reader.specs.declared.written.WrittenStop.{WrittenStop}
 use Rattle.tour_reader.specs.Gives.{◌>>=◌, good}
-use Rattle.tour_reader.specs.Fields.{key, fields_of, first_missing, first_unknown, with_missing, with_fields}
+use Rattle.tour_reader.specs.Fields.{key, first_missing, first_unknown, with_missing, with_fields}
 use Rattle.tour_reader.specs.Values.{within, text_of, array_of, items_of, whole_of}
-use Rattle.tour_reader.specs.Head.{book_of, grid_of, on_unit, unit_of_book, start_of, params_of, head_in, head_of}
+use Rattle.tour_reader.specs.Head.{book_of, grid_of, on_unit, start_of, head_in, head_of}
+use Rattle.tour_reader.specs.Books.{fields_of, unit_of_book, params_of}
 use Rattle.tour_reader.specs.Written.{name_at, time_at, span_between, span_from, span_of, and_others, spans_of, few_spans, spans_at, written_fields, written_stop, written_stops, few_stops, stops_of}
 use Rattle.tour_reader.specs.Checks.{distinct, in_time}
 use Rattle.tour_reader.specs.Rounding.{stop_of, tour_from}

@@ -1,4 +1,4 @@
--- The fields of a tour's form: their names, and which of them a tour and a stop have.
+-- The fields of a tour's form: their names, and how a form is asked for those that it should have.
 use Rattle.std.specs.Prelude.{ℕ, Bool, not, List, [], ◌∷◌, codes, Option, Some, None, is_none, find, Result, Ok, Err}
 use Rattle.std.specs.List.{list_any}
 use Rattle.std.specs.Str.{bytes_eq}
@@ -6,9 +6,6 @@ use Rattle.serde_json.specs.Data.{Data, Members, no_members, member}
 use Rattle.serde_json.specs.Find.{get, as_object}
 use Rattle.tour_reader.specs.declared.field.Field.{Field}
 use Rattle.tour_reader.specs.declared.field.Field.TheVariants as field
-use Rattle.tour_reader.specs.declared.field.TheConstants.{US_FIELDS, CANADA_FIELDS, HVNL_FIELDS}
-use Rattle.tour_reader.specs.declared.book.Book.{Book}
-use Rattle.tour_reader.specs.declared.book.Book.TheVariants.{Us, Canada, Hvnl}
 use Rattle.tour_reader.specs.declared.fault.TourFault.{TourFault}
 use Rattle.tour_reader.specs.declared.fault.TourFault.TheVariants.{Missing, Unknown}
 
@@ -27,12 +24,6 @@ key field.Name = codes "name"
 key field.Drive = codes "drive"
 key field.Service = codes "service"
 key field.Windows = codes "windows"
-
--- the fields of a tour of the book, in the order in which their faults are told
-abbrev pub fields_of : Book → List Field
-fields_of Us = US_FIELDS
-fields_of Canada = CANADA_FIELDS
-fields_of Hvnl = HVNL_FIELDS
 
 -- whether one of the fields has this name
 abbrev pub is_known : List Field → List ℕ → Bool

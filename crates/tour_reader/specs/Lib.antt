@@ -2,6 +2,7 @@ pub mod Fields
 pub mod Gives
 pub mod Values
 pub mod Times
+pub mod Books
 pub mod Head
 pub mod Written
 pub mod Checks

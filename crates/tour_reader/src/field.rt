@@ -33,32 +33,6 @@ pub enum Field {
     Windows,
 }
 
-/// The fields of a tour of the United States, in the order in which their faults are told.
-pub(crate) const US_FIELDS: [Field; 7] = [
-    Field::Book,
-    Field::Grid,
-    Field::Start,
-    Field::Berth,
-    Field::Days,
-    Field::DayStart,
-    Field::Stops,
-];
-
-/// The fields of a tour of Canada, in the order in which their faults are told.
-pub(crate) const CANADA_FIELDS: [Field; 8] = [
-    Field::Book,
-    Field::Grid,
-    Field::Start,
-    Field::Berth,
-    Field::Rest,
-    Field::Cycle,
-    Field::DayStart,
-    Field::Stops,
-];
-
-/// The fields of a tour of Australia, in the order in which their faults are told.
-pub(crate) const HVNL_FIELDS: [Field; 4] = [Field::Book, Field::Grid, Field::Start, Field::Stops];
-
 /// The fields of a stop, in the order in which their faults are told.
 pub(crate) const STOP_FIELDS: [Field; 4] = [
     Field::Name,

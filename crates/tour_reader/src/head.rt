@@ -2,18 +2,18 @@
 ghost use Rattle.std.specs.Prelude.{◌≡◌, ◌<◌, ◌≤◌, IfOk};
 ghost use Rattle.serde_json.specs.View.{view};
 ghost use Rattle.tour_reader.specs.Gives.{Gives};
-ghost use Rattle.tour_reader.specs.Head.{book_of, grid_of, on_unit, start_of, berth_of, day_start_of, way_named, us_params, canada_params, params_of, head_in, head_of};
+ghost use Rattle.tour_reader.specs.Head.{book_of, grid_of, on_unit, start_of, head_in, head_of};
 
-use crate::book::Book;
+use crate::book::{Book, params_of};
 use crate::fault::TourFault;
 use crate::field::Field;
 use crate::form::{good, only_fields};
-use crate::time::{clock_of, time_of};
-use crate::value::{number_of, text_of, whole_of};
-use duty_core::{Minute, Params, RestWay};
+use crate::time::time_of;
+use crate::value::{number_of, text_of};
+use duty_core::{Minute, Params};
 use serde_json::Value;
 use std::alloc::Global;
-use tour_model::{EARLIEST_START, FEWEST_DAYS, LATEST_START, MOST_CYCLE, MOST_DAYS};
+use tour_model::{EARLIEST_START, LATEST_START};
 
 /// What a form says before its stops: the book with its parameters, the minutes of a step, and the
 /// civil minute at which the first one begins.
@@ -70,82 +70,6 @@ fn start_of(book: Book, form: &Value) -> Option<Minute>
         return None;
     }
     on_unit(book.unit(), at)
-}
-
-/// Whether the truck has a sleeper berth.
-fn berth_of(form: &Value) -> Result<bool, TourFault>
-    ensures { result ≡ berth_of (view form.now) }
-{
-    let berth = form.get(Field::Berth.key()).and_then(Value::as_bool);
-    good(Field::Berth, None, berth)
-}
-
-/// The minute at which a day begins.
-#[tactic(auto, unfolding(crate::specs::Head::day_start_of))]
-fn day_start_of(form: &Value) -> Result<u16, TourFault>
-    ensures { result ≡ day_start_of (view form.now) }
-{
-    let day_start = text_of(form, Field::DayStart).and_then(clock_of);
-    good(Field::DayStart, None, day_start)
-}
-
-/// The way to part rest that has this name.
-fn way_named(name: &str) -> Option<RestWay>
-    ensures { result ≡ way_named name.now }
-{
-    if name == "split" {
-        Some(RestWay::Split)
-    } else if name == "defer" {
-        Some(RestWay::Defer)
-    } else {
-        None
-    }
-}
-
-/// The parameters of the United States.
-#[tactic(auto, unfolding(crate::specs::Head::us_params))]
-fn us_params(form: &Value) -> Result<Params, TourFault>
-    ensures { result ≡ us_params (view form.now) }
-{
-    let berth = berth_of(form)?;
-    let days = whole_of(form, Field::Days, FEWEST_DAYS, MOST_DAYS);
-    let days = good(Field::Days, None, days)?;
-    let day_start = day_start_of(form)?;
-    Ok(Params::UsProperty {
-        berth,
-        days: days as u8,
-        day_start,
-    })
-}
-
-/// The parameters of Canada.
-#[tactic(auto, unfolding(crate::specs::Head::canada_params))]
-fn canada_params(form: &Value) -> Result<Params, TourFault>
-    ensures { result ≡ canada_params (view form.now) }
-{
-    let berth = berth_of(form)?;
-    let way = text_of(form, Field::Rest).and_then(way_named);
-    let way = good(Field::Rest, None, way)?;
-    let cycle = whole_of(form, Field::Cycle, 1, MOST_CYCLE);
-    let cycle = good(Field::Cycle, None, cycle)?;
-    let day_start = day_start_of(form)?;
-    Ok(Params::Canada {
-        berth,
-        way,
-        cycle: cycle as u8,
-        day_start,
-    })
-}
-
-/// The parameters of the book.
-fn params_of(book: Book, form: &Value) -> Result<Params, TourFault>
-    ensures { result ≡ params_of book (view form.now) }
-{
-    match book {
-        Book::Us => us_params(form),
-        Book::Canada => canada_params(form),
-        Book::Hvnl => Ok(Params::Hvnl {}),
-    }
 }
 
 /// What a form with the fields of the book says before its stops.
