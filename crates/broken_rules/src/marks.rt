@@ -1,17 +1,9 @@
 //! Marks as words.
 
 use civil_minutes::{day_of, read_minute};
-use duty_core::{Mark, Marks, Minute, Params};
+use duty_core::{Mark, Marks, Minute, Params, day_start_of};
 use outside::Word;
 use std::alloc::Global;
-
-/// The minute of a day at which the book's days begin.
-fn day_start_of(params: Params) -> u16 {
-    match params {
-        Params::UsProperty { day_start, .. } | Params::Canada { day_start, .. } => day_start,
-        Params::Hvnl {} => 0,
-    }
-}
 
 /// The mark that a word and a minute tell.
 fn mark_of(kind: &Word, at: Minute, day_start: u16) -> Result<Mark, &'static str> {

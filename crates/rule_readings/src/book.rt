@@ -1,12 +1,11 @@
-//! What the parameters of a book say of its weeks, cycles, days, berths and ways to rest.
+//! What the parameters of a book say of its rules, weeks, cycles, days and ways to rest.
 ghost use Rattle.std.specs.Prelude.{◌≡◌, ◌↔◌, IsTrue};
-ghost use Rattle.duty_core.specs.Params.{has_berth};
 ghost use Rattle.duty_core.specs.Day.{day_start};
 ghost use Rattle.duty_core.specs.CaShift.{IsSplitWay};
 ghost use Rattle.duty_core.specs.Deferral.{IsDeferWay};
 ghost use Rattle.duty_core.specs.RuleBooks.{rules_of, week_days, cycle_of};
 
-use duty_core::{Params, RestWay, Rule};
+use duty_core::{Params, RestWay, Rule, day_start_of, way_of};
 
 static US_RULES: [Rule; 5] = [
     Rule::UsWindow14,
@@ -77,34 +76,16 @@ pub(crate) fn cycle(params: Params) -> u32
 pub(crate) fn start_of_day(params: Params) -> u32
     ensures { result ≡ day_start params }
 {
-    match params {
-        Params::UsProperty { day_start, .. } | Params::Canada { day_start, .. } => {
-            u32::from(day_start)
-        }
-        Params::Hvnl {} => 0,
-    }
-}
-
-/// Whether the truck has a sleeper berth.
-pub(crate) fn berth_of(params: Params) -> bool
-    ensures { result ≡ has_berth params }
-{
-    match params {
-        Params::UsProperty { berth, .. } | Params::Canada { berth, .. } => berth,
-        Params::Hvnl {} => false,
-    }
+    u32::from(day_start_of(params))
 }
 
 /// Whether the tour rests by the way `split`.
 pub(crate) fn is_split_way(params: Params) -> bool
     ensures { IsTrue result ↔ IsSplitWay params }
 {
-    match params {
-        Params::Canada {
-            way: RestWay::Split,
-            ..
-        } => true,
-        Params::Canada { .. } | Params::UsProperty { .. } | Params::Hvnl {} => false,
+    match way_of(params) {
+        Some(RestWay::Split) => true,
+        Some(RestWay::Defer) | None => false,
     }
 }
 
@@ -112,11 +93,8 @@ pub(crate) fn is_split_way(params: Params) -> bool
 pub(crate) fn is_defer_way(params: Params) -> bool
     ensures { IsTrue result ↔ IsDeferWay params }
 {
-    match params {
-        Params::Canada {
-            way: RestWay::Defer,
-            ..
-        } => true,
-        Params::Canada { .. } | Params::UsProperty { .. } | Params::Hvnl {} => false,
+    match way_of(params) {
+        Some(RestWay::Defer) => true,
+        Some(RestWay::Split) | None => false,
     }
 }

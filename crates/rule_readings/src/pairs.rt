@@ -10,11 +10,10 @@ ghost use Rattle.rule_readings.specs.declared.padded.TheConstants.{LONGEST_PADDE
 ghost use Rattle.rule_readings.specs.Pairs.{IsPair, IsPairedRun, IsSplitFound};
 ghost use Rattle.rule_readings.specs.Histories.{IsMarkedIn};
 
-use crate::book::berth_of;
 use crate::declared::{is_declared, last_declared, minute_of};
 use crate::history::History;
 use crate::padded::{Padded, RestRun};
-use duty_core::{Activity, Minute, Params};
+use duty_core::{Activity, Minute, Params, has_berth};
 
 /// What a book asks of the sleeper berth in a pair of rests.
 #[derive(Clone, Copy, Debug, PartialEq, Eq)]
@@ -141,7 +140,7 @@ pub(crate) fn split_run(history: &History<'_>, least: u32, full: u32, at: Minute
     requires early { history.now.scope.first ≤ MINUTE_LIMIT }
     ensures { IsSplitFound history.now.scope.params history.now.scope.first least full history.now.padded.now at result }
 {
-    if !berth_of(history.scope.params) {
+    if !has_berth(history.scope.params) {
         return None;
     }
     for run in history.padded.rest_runs() {
