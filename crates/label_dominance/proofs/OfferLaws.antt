@@ -1,25 +1,26 @@
 -- Looking through a layer for a better label, at the places of one progress after the other.
-use Rattle.std.proofs.Common.{◌≡◌, ◌==◌, ◌&&◌, ◌||◌, ℕ, ◌+◌, ◌<◌, ◌≤◌, Bool, true, false, List, [], length, take, get_or, refl, sym, ◌∙◌, ap, subst, arith, inl, inr}
+use Rattle.std.proofs.Common.{◌≡◌, ◌==◌, ◌&&◌, ◌||◌, ℕ, ◌+◌, ◌<◌, ◌≤◌, Bool, true, false, List, [], ◌∷◌, length, take, get_or, refl, sym, ◌∙◌, ap, subst, arith, inl, inr}
 use Rattle.std.specs.Prelude.{Option, None, Some, option_map, slice_get, nat_lt}
-use Rattle.std.proofs.lemmas.Bool.{cases_lt}
+use Rattle.std.proofs.lemmas.Bool.{cases_lt, cases_Bool}
 use Rattle.std.proofs.lemmas.Bool.Decides.{nat_tests}
 use Rattle.std.proofs.lemmas.List.{take_all, take-take, take-map, length-take-le}
 use Rattle.std.proofs.lemmas.Option.{get_or_from_slice_get, slice_get_read, slice_get_within, slice_get-get_or, slice_get-map}
-use Rattle.rule_core.specs.Laws.OneOf.{one_of_map, one_of_item}
+use Rattle.rule_core.specs.Reach.{IsOneOf}
+use Rattle.rule_core.specs.Laws.OneOf.{one_of_map, one_of_item, one_of-append}
 use Rattle.tour_model.specs.declared.tour.Tour.{Tour}
 use Rattle.tour_model.specs.declared.label.Label.{Label}
 use Rattle.tour_model.specs.Word.{may_idle}
 use Rattle.rule_core.specs.Machine.{Machine}
 use Rattle.label_state.specs.declared.kept.Kept.{Kept}
-use Rattle.label_state.specs.Layers.{labels_of}
-use Rattle.label_state.specs.Laws.LayerLaws.{label_kept, place_of_one, place_taken}
+use Rattle.label_state.specs.Layers.{labels_of, last_layer, with_kept}
+use Rattle.label_state.specs.Laws.LayerLaws.{label_kept, place_of_one, place_taken, last_kept}
 use Rattle.label_state.specs.Buckets.{places_of}
 use Rattle.label_state.specs.Laws.Buckets.{ArePlaces}
 use Rattle.label_state.specs.Laws.BucketLaws.{are_places}
 use Rattle.cert_text.specs.CoverLists.Problem.{Problem, later, can_wait_for, is_better}
 use Rattle.cert_text.specs.CoverLists.Planning.{problem_of}
 use Rattle.cert_text.specs.CoverLists.Cover.{NoneCovers}
-use Rattle.label_dominance.specs.Offers.{AreStatesAt, may_keep_up, MayKeepUp, AreRising, NoneAt, IsCoverAt, IsPlaceSought, IsCoverSought}
+use Rattle.label_dominance.specs.Offers.{AreStatesAt, may_keep_up, MayKeepUp, AreRising, NoneAt, IsCoverAt, AreAheadBelow, IsPlaceSought, IsCoverSought}
 
 -- ---- keeping up
 
@@ -221,36 +222,84 @@ front_long front i k e = let lt = slice_get_within front i k e in sym (length-ta
 
 -- ---- the whole layer looked through
 
--- no label has done as much as the end, or more
-none_left : {S : Type 0} (problem : Problem S) (step : ℕ) (layer : List (Kept S)) (l : Label S) (p : ℕ) (front : List (Kept S)) (first : Option ℕ) → ((q : ℕ) → p ≤ q → places_of q layer ≡ []) → Looked problem step layer l p front first →
+-- a label of a layer has a place among those of its progress
+no_place : {S : Type 0} (layer : List (Kept S)) (j : ℕ) (k : Kept S) → slice_get layer j ≡ Some k → places_of k.label.progress layer ≡ [] → ⊥
+no_place layer j k there empty =
+    let at = (are_places k.label.progress 0 layer).all j k there refl in
+    let none = ap length empty in
+    let lt = at.1 in
+    omega arith
+
+-- so what is above the progress of all is above that of those that are ahead
+pub all_below : {S : Type 0} (ahead : S → Bool) (top : ℕ) (layer : List (Kept S)) → ((q : ℕ) → top ≤ q → places_of q layer ≡ []) → AreAheadBelow ahead top layer
+all_below ahead top layer past k o y = elim (cases_lt k.label.progress top) [ inl less ↦ less | inr le ↦ absurd (let i = place_of_one layer k o in no_place layer i.0 k i.1 (past k.label.progress le)) ]
+
+-- and it stays so where a label is added
+pub below_kept : {S : Type 0} (ahead : S → Bool) (end new : ℕ) (layers : List (List (Kept S))) (k : Kept S) → 0 < length layers → AreAheadBelow ahead end (last_layer layers) → end ≤ new → (ahead k.label.state ≡ true → k.label.progress < new) →
+    AreAheadBelow ahead new (last_layer (with_kept layers k))
+below_kept ahead end new layers k some below le own x o y = elim (one_of-append (last_layer layers) (k ∷ []) x (subst (λ ys. IsOneOf ys x) (last_kept layers k some) o)) [
+  | inl a ↦ let lt = below x a y in omega arith
+  | inr q ↦ elim q [ inl f ↦ subst (λ z. z.label.progress < new) f (own (subst (λ z. ahead z.label.state ≡ true) (sym f) y)) | inr z ↦ absurd z ]
+]
+
+-- what has done more and is not ahead is not better
+shut_behind : (l e w h c : Bool) → e ≡ false → h ≡ false → ((l && (e || (w && h))) && c) ≡ false
+shut_behind l true w h c x y = absurd (let z : true ≡ false = x in cc)
+shut_behind l false w true c x y = absurd (let z : true ≡ false = y in cc)
+shut_behind true false true false c x y = refl
+shut_behind true false false false c x y = refl
+shut_behind false false w false c x y = refl
+
+unequal_of : (a b : ℕ) → b < a → (a == b) ≡ false
+unequal_of a b lt = grind (arith, nat_tests)
+
+not_behind : {S : Type 0} (tour : Tour) (m : Machine S) (step : ℕ) (a b : Label S) → b.progress < a.progress → m.ahead a.state ≡ false → is_better (problem_of tour m) step a b ≡ false
+not_behind tour m step a b lt h =
+    shut_behind (later a.depart b.depart) (a.progress == b.progress) (nat_lt b.progress a.progress && may_idle tour a.progress) (m.ahead a.state) ((problem_of tour m).covers a.state b.state step) (unequal_of a.progress b.progress lt) h
+
+-- The labels of the layer that have done p steps or more are not better.
+abbrev pub NoneBeyond : {S : Type 0} → Problem S → ℕ → List (Kept S) → Label S → ℕ → Type 0
+NoneBeyond {S} problem step layer l p = (j : ℕ) (k : Kept S) → slice_get layer j ≡ Some k → p ≤ k.label.progress → is_better problem step k.label l ≡ false
+
+-- for no label has done so much, or they have done more and none is ahead
+pub none_beyond : {S : Type 0} (tour : Tour) (m : Machine S) (step : ℕ) (layer : List (Kept S)) (l : Label S) (top end p : ℕ) → ((q : ℕ) → top ≤ q → places_of q layer ≡ []) → AreAheadBelow m.ahead end layer →
+    (p < top → (end ≤ p) × (l.progress < p)) → NoneBeyond (problem_of tour m) step layer l p
+none_beyond tour m step layer l top end p past below ends j k there le = elim (cases_lt k.label.progress top) [
+  | inr far ↦ absurd (no_place layer j k there (past k.label.progress far))
+  | inl less ↦
+      let so = ends (omega arith) in
+      let u = so.0 in
+      let v = so.1 in
+      let o = one_of_item layer j k (slice_get_within layer j k there) (sym (get_or_from_slice_get layer j k k there)) in
+      elim (cases_Bool (m.ahead k.label.state)) [
+        | inl y ↦ absurd (let lt = below k o y in omega arith)
+        | inr y ↦ not_behind tour m step k.label l (omega arith) y
+      ]
+]
+
+none_left : {S : Type 0} (problem : Problem S) (step : ℕ) (layer : List (Kept S)) (l : Label S) (p : ℕ) (front : List (Kept S)) (first : Option ℕ) → NoneBeyond problem step layer l p → Looked problem step layer l p front first →
     NoneCovers problem step (labels_of front) l
-none_left problem step layer l p front first past h x o =
+none_left problem step layer l p front first beyond h x o =
     let q = label_kept front x o in
     let i = place_of_one front q.0 q.1 in
     subst (λ y. is_better problem step y l ≡ false) q.2 (elim (cases_lt q.0.label.progress p) [
       | inl less ↦ h.none i.0 q.0 i.1 less
-      | inr le ↦ (
-          let there = front_label layer front (end_of layer first) i.0 q.0 h.front_is i.1 in
-          let at = (are_places q.0.label.progress 0 layer).all i.0 q.0 there.1 refl in
-          let none = ap length (past q.0.label.progress le) in
-          let lt = at.1 in
-          absurd (omega arith)
-          )
+      | inr le ↦ (let there = front_label layer front (end_of layer first) i.0 q.0 h.front_is i.1 in beyond i.0 q.0 there.1 le)
     ])
 
 -- the label at a place
 label_there : {S : Type 0} (layer : List (Kept S)) (i : ℕ) (k : Kept S) → slice_get layer i ≡ Some k → slice_get (labels_of layer) i ≡ Some k.label
 label_there layer i k e = slice_get-map (λ m. m.label) layer i ∙ ap (option_map (λ m. m.label)) e
 
-pub cover_sought : {S : Type 0} (problem : Problem S) (step : ℕ) (layer : List (Kept S)) (l : Label S) (p : ℕ) (front : List (Kept S)) (first : Option ℕ) → ((q : ℕ) → p ≤ q → places_of q layer ≡ []) → Looked problem step layer l p front first →
+pub cover_sought : {S : Type 0} (problem : Problem S) (step : ℕ) (layer : List (Kept S)) (l : Label S) (p : ℕ) (front : List (Kept S)) (first : Option ℕ) → NoneBeyond problem step layer l p → Looked problem step layer l p front first →
     IsCoverSought problem step (labels_of layer) l first
-cover_sought problem step layer l p front None past h =
-    subst (λ ks. NoneCovers problem step (labels_of ks) l) (h.front_is ∙ take_all (length layer) layer (omega arith)) (none_left problem step layer l p front None past h)
-cover_sought problem step layer l p front (Some i) past h =
+cover_sought problem step layer l p front None beyond h =
+    subst (λ ks. NoneCovers problem step (labels_of ks) l) (h.front_is ∙ take_all (length layer) layer (omega arith)) (none_left problem step layer l p front None beyond h)
+cover_sought problem step layer l p front (Some i) beyond h =
     let c = h.found in
     record {
       cover = c.cover.label;
       there = label_there layer i c.cover c.there;
       better = c.better;
-      first = subst (λ ls. NoneCovers problem step ls l) (ap labels_of h.front_is ∙ sym (take-map (λ k. k.label) i layer)) (none_left problem step layer l p front (Some i) past h);
+      first = subst (λ ls. NoneCovers problem step ls l) (ap labels_of h.front_is ∙ sym (take-map (λ k. k.label) i layer)) (none_left problem step layer l p front (Some i) beyond h);
     }

@@ -23,6 +23,10 @@ may_keep_up tour p q = p == q || (nat_lt q p && may_idle tour p)
 abbrev pub MayKeepUp : {S : Type 0} → Tour → List (Kept S) → List ℕ → Label S → Type 0
 MayKeepUp {S} tour layer places l = (m : ℕ) (k : Kept S) → m < length places → slice_get layer (slice_index_or places m 0) ≡ Some k → may_keep_up tour k.label.progress l.progress ≡ true
 
+-- Each label whose state is ahead has done less than `end`.
+abbrev pub AreAheadBelow : {S : Type 0} → (S → Bool) → ℕ → List (Kept S) → Type 0
+AreAheadBelow {S} ahead end layer = (k : Kept S) → IsOneOf layer k → ahead k.label.state ≡ true → k.label.progress < end
+
 -- Each place is after those before it.
 abbrev pub AreRising : List ℕ → Type 0
 AreRising places = (m n : ℕ) → m < n → n < length places → slice_index_or places m 0 < slice_index_or places n 0

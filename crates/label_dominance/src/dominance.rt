@@ -10,7 +10,7 @@ ghost use Rattle.cert_text.specs.CoverLists.Problem.{is_better};
 ghost use Rattle.cert_text.specs.CoverLists.Planning.{problem_of, minute_of, state_at};
 ghost use Rattle.cert_text.specs.CoverLists.Cover.{IsLabelAt};
 ghost use Rattle.cert_text.specs.CoverLists.Continuation.{AnswersContinuations};
-ghost use Rattle.label_dominance.specs.Offers.{AreStatesAt, may_keep_up, AreRising, MayKeepUp, IsPlaceSought, IsCoverSought, IsOffered};
+ghost use Rattle.label_dominance.specs.Offers.{AreStatesAt, may_keep_up, AreRising, MayKeepUp, AreAheadBelow, IsPlaceSought, IsCoverSought, IsOffered};
 
 use cert_text::{departs_later, may_idle_after, minute_at};
 use duty_core::NoMemory;
@@ -109,24 +109,29 @@ fn first_among<B: RuleBook>(
 }
 
 /// The place of the first label of the last layer that is better than this one. The labels that
-/// have done as much are looked at, and those that have done more where the tour allows to idle,
-/// as far as they stand before the first that is found.
+/// have done as much are looked at, and those that have done more where the tour allows to idle and
+/// where a state is ahead, which is so below `ahead_end` alone; and of them those that stand before
+/// the first that is found.
 fn first_cover<B: RuleBook>(
     book: &B,
     tour: &Tour,
     layers: &Layers<B::State>,
+    ahead_end: usize,
     label: &Label<B::State>,
 ) -> Option<u32>
     requires tour { IsTour tour.now }
     requires some { 0 < length layers.now }
     requires layer { AreStatesAt (state_at tour.now (B.machine book.now)) (last_step layers.now) (labels_of (last_layer layers.now)) }
     requires label { (B.machine book.now).is_state label.now.state (minute_of tour.now (last_step layers.now)) }
+    requires ahead { AreAheadBelow (B.machine book.now).ahead ahead_end (last_layer layers.now) }
     ensures { IsCoverSought (problem_of tour.now (B.machine book.now)) (last_step layers.now) (labels_of (last_layer layers.now)) label.now result }
 {
     let step = layers.depth() - 1;
     let mut before = layers.layer(step);
     let mut first = None;
-    for progress in label.progress as usize..layers.progress_end() {
+    let own = label.progress as usize;
+    let end = ahead_end.max(own + 1).min(layers.progress_end());
+    for progress in own..end {
         let progress = progress as u32;
         let places = layers.places(progress);
         if places.is_empty() || !may_keep_up(tour, progress, label.progress) {
@@ -157,9 +162,40 @@ pub fn offer<B: RuleBook>(
     ensures offered { IfOk result (IsOffered (problem_of tour.now (B.machine book.now)) layers.old kept layers.new) }
     ensures err { OnErr result (layers.new ≡ layers.old) }
 {
-    if let Some(index) = first_cover(book, tour, layers, &kept.label) {
+    let mut ahead_end = layers.progress_end();
+    offer_to(book, tour, layers, &mut ahead_end, kept)
+}
+
+/// The same, where the caller keeps a number beside the last layer that is above the progress of
+/// each of its labels whose state is ahead: no others can stand for one that has done less, so where
+/// no state is ahead, only labels that have done as much are looked at. A new layer's number is 0.
+pub fn offer_to<B: RuleBook>(
+    book: &B,
+    tour: &Tour,
+    layers: &mut Layers<B::State>,
+    ahead_end: &mut usize,
+    kept: Kept<B::State>,
+) -> Result<Offered, NoMemory>
+    requires tour { IsTour tour.now }
+    requires params { (B.machine book.now).params ≡ tour.now.params }
+    requires some { 0 < length layers.old }
+    requires room { label_count layers.old < LAYER_LIMIT }
+    requires layer { AreStatesAt (state_at tour.now (B.machine book.now)) (last_step layers.old) (labels_of (last_layer layers.old)) }
+    requires label { (B.machine book.now).is_state kept.label.state (minute_of tour.now (last_step layers.old)) }
+    requires ahead { AreAheadBelow (B.machine book.now).ahead ahead_end.old (last_layer layers.old) }
+    ensures offered { IfOk result (IsOffered (problem_of tour.now (B.machine book.now)) layers.old kept layers.new) }
+    ensures err { OnErr result (layers.new ≡ layers.old) }
+    ensures ahead { AreAheadBelow (B.machine book.now).ahead ahead_end.new (last_layer layers.new) }
+{
+    if let Some(index) = first_cover(book, tour, layers, *ahead_end, &kept.label) {
         return Ok(Offered::Covered { index });
     }
+    let end = if book.ahead(&kept.label.state) {
+        kept.label.progress as usize + 1
+    } else {
+        0
+    };
     layers.keep(kept)?;
+    *ahead_end = end.max(*ahead_end);
     Ok(Offered::Kept)
 }

@@ -3,4 +3,4 @@
 
 mod dominance;
 
-pub use dominance::{Offered, better, offer};
+pub use dominance::{Offered, better, offer, offer_to};

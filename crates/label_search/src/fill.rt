@@ -9,7 +9,7 @@ ghost use Rattle.label_search.specs.Sound.{AreOrdered};
 ghost use Rattle.label_search.specs.Searching.{AreLabelsAt, AddsLayer};
 
 use duty_core::NoMemory;
-use label_dominance::offer;
+use label_dominance::offer_to;
 use label_state::{Kept, Layers};
 use rule_core::RuleBook;
 use std::alloc::Global;
@@ -35,11 +35,12 @@ pub fn add_layer<B: RuleBook>(
     ensures ok { OnOk result (AddsLayer (problem_of tour.now (B.machine book.now)) budget list.items layers.old layers.new) }
 {
     layers.push_layer(alloc)?;
+    let mut ahead_end = 0;
     for kept in list {
         if layers.kept() >= budget {
             return Ok(());
         }
-        offer(book, tour, layers, kept)?;
+        offer_to(book, tour, layers, &mut ahead_end, kept)?;
     }
     Ok(())
 }

@@ -4,7 +4,7 @@ use Rattle.label_state.specs.declared.kept.Kept.{Kept}
 use Rattle.label_state.specs.Layers.{last_step, last_layer, labels_of}
 use Rattle.cert_text.specs.CoverLists.Planning.{problem_of, state_at}
 use Rattle.label_dominance.specs.Offers.{AreStatesAt, IsPlaceSought}
-use Rattle.label_dominance.proofs.OfferLaws.{end_of, Looked, places_rise, front_states, keep_up_at, looked_past, looked_empty, looked_through, looked_found, front_long, cover_sought}
+use Rattle.label_dominance.proofs.OfferLaws.{end_of, Looked, places_rise, front_states, keep_up_at, looked_past, looked_empty, looked_through, looked_found, front_long, none_beyond, cover_sought}
 use Rattle.label_dominance.proofs.dominance.first_cover.Goals as goal
 use Rattle.label_dominance.proofs.dominance.first_cover.Goals.{then-is_empty-via-then-is_empty, then-is_empty-via-else-is_empty+then-not-may_keep_up, in-Some, in_default}
 
@@ -67,5 +67,8 @@ pub returns : goal.returns
 returns g c =
     let m = g.B.RuleBook.machine c.args.book.now in
     let at = c.loop-progress in
+    let top = c.progress_end in
+    let past = c.loop-progress-test.false in
     cover_sought (problem_of c.args.tour.now m) (last_step c.args.layers.now) (last_layer c.args.layers.now) c.args.label.now at.progress at.before.now at.first
-    (λ q le. c.progress_end-progress-end.ensures.above q (let past = c.loop-progress-test.false in omega arith)) at.invariant
+    (none_beyond c.args.tour.now m (last_step c.args.layers.now) (last_layer c.args.layers.now) c.args.label.now top.result c.args.ahead_end at.progress top.ensures.above c.requires.ahead (λ less. (omega arith, omega arith)))
+    at.invariant

@@ -51,9 +51,9 @@ returns-then-kept-budget g c =
           (adds_full problem c.args.budget c.loop-kept.yielded rest c.args.layers.now c.loop-kept.layers c.loop-kept.invariant.added c.requires.room full);
     }
 
-pub offer-requires-clause-layer : goal.offer-requires-clause-layer
-offer-requires-clause-layer g c l o =
-    let some = (goal.at.offer-requires-clause-layer g c).In-Some in
+pub offer_to-requires-clause-layer : goal.offer_to-requires-clause-layer
+offer_to-requires-clause-layer g c l o =
+    let some = (goal.at.offer_to-requires-clause-layer g c).In-Some in
     let a = c.loop-kept.invariant.added in
     let e : last_layer c.loop-kept.layers ≡ a.layer = ap last_layer a.thereafter ∙ layer_added c.args.layers.now a.layer in
     let q = label_kept a.layer l (subst (λ ys. IsOneOf (labels_of ys) l) e o) in
@@ -62,9 +62,9 @@ offer-requires-clause-layer g c l o =
     subst (λ n. (g.B.RuleBook.machine c.args.book.now).is_state l.state (minute_of c.args.tour.now n)) (sym (last_of g some))
     (subst (λ m. (g.B.RuleBook.machine c.args.book.now).is_state m.state (minute_of c.args.tour.now (length c.args.layers.now))) q.2 here.state)
 
-pub offer-requires-clause-label : goal.offer-requires-clause-label
-offer-requires-clause-label g c =
-    let some = (goal.at.offer-requires-clause-label g c).In-Some in
+pub offer_to-requires-clause-label : goal.offer_to-requires-clause-label
+offer_to-requires-clause-label g c =
+    let some = (goal.at.offer_to-requires-clause-label g c).In-Some in
     subst (λ n. (g.B.RuleBook.machine c.args.book.now).is_state c.in-Some.kept.label.state (minute_of c.args.tour.now n)) (sym (last_of g some)) (label_of g some).state
 
 pub loop-kept-preserved : goal.loop-kept-preserved
@@ -80,7 +80,8 @@ loop-kept-preserved g c =
     record {
       can = tt;
       finite = tt;
-      added = adds_more problem c.args.budget c.loop-kept.yielded k c.args.layers.now c.loop-kept.layers c.offer.new.layers c.in_ok-offer.field-0 c.loop-kept.invariant.added c.in_ok-offer.ensures.offered before itself c.requires.room room;
+      added = adds_more problem c.args.budget c.loop-kept.yielded k c.args.layers.now c.loop-kept.layers c.offer_to.new.layers c.in_ok-offer_to.field-0 c.loop-kept.invariant.added c.in_ok-offer_to.ensures.offered before itself c.requires.room room;
+      ahead = c.offer_to.ensures.ahead;
     }
 
 pub returns : goal.returns
