@@ -77,13 +77,13 @@ impl SplitCount {
         ensures { result ≡ is_no_worse rule may self other }
     {
         let run = self.run();
-        let none = self.waiting().is_none();
-        let deep = run.is_deep(other.run(), rule.berth) || (!may && none);
-        let keeps = run.long == other.run().long || self.is_ready(rule.berth);
-        let base = self.base().is_no_more(other.base(), rule.limits);
-        let last = self.last().is_last_no_more(other.last(), rule.limits, may);
-        let less = base && last;
-        other.run().long <= run.long && deep && keeps && less && self.waits_no_worse(other, rule)
+        let than = other.run();
+        than.long <= run.long
+            && (run.is_deep(than, rule.berth) || (!may && self.waiting().is_none()))
+            && (run.long == than.long || self.is_ready(rule.berth))
+            && self.base().is_no_more(other.base(), rule.limits)
+            && self.last().is_last_no_more(other.last(), rule.limits, may)
+            && self.waits_no_worse(other, rule)
     }
 
     /// Whether the run in progress may end as a full rest once it is one.
