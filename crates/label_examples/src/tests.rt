@@ -1,5 +1,5 @@
 //! Two tours by hand: four hours of driving and then an hour of service, and two short stops.
-ghost use Rattle.std.specs.Prelude.{◌≡◌, ◌+◌, ◌<◌, IfOk, IfSome};
+ghost use Rattle.std.specs.Prelude.{◌≡◌, ◌+◌, ◌<◌, ◌∷◌, [], IfOk, IfSome};
 ghost use Rattle.rule_core.specs.Reach.{listed, IsOneOf};
 ghost use Rattle.tour_model.specs.declared.limits.TheConstants.{STEP_LIMIT};
 ghost use Rattle.tour_model.specs.Tour.{IsTour, IsParams};
@@ -7,7 +7,7 @@ ghost use Rattle.cert_text.specs.CoverLists.Planning.{minute_of};
 
 use cert_text::minute_at;
 use duty_core::{Activity, NoMemory, Params, unit_of};
-use label_dominance::{Offered, better, offer};
+use label_dominance::{Offered, better, offer, offer_to};
 use label_extend::successors;
 use label_state::{Kept, Label, Layers};
 use rule_core::{Next, Nexts, RuleBook};
@@ -191,6 +191,19 @@ fn kept_at_four<S>(progress: u32, state: S) -> Kept<S>
     }
 }
 
+/// The layers up to that of step 4, with no labels.
+fn layers_to_four<S: Drop>(alloc: Global) -> Result<Layers<S>, NoMemory>
+    ensures { IfOk result (λ layers. layers ≡ [] ∷ [] ∷ [] ∷ [] ∷ [] ∷ []) }
+{
+    let mut layers = Layers::new(alloc);
+    layers.push_layer(alloc)?;
+    layers.push_layer(alloc)?;
+    layers.push_layer(alloc)?;
+    layers.push_layer(alloc)?;
+    layers.push_layer(alloc)?;
+    Ok(layers)
+}
+
 /// Checks that a label that has driven to the first stop, served it and rests stands for one that
 /// has only driven there and waits, and not the reverse.
 fn waits_for_a_label_that_has_done_less<B: RuleBook>(
@@ -212,17 +225,43 @@ fn waits_for_a_label_that_has_done_less<B: RuleBook>(
     let less = kept_at_four(1, waited);
     assert!(rt; better(book, tour, &more.label, &less.label, 4));
     assert!(rt; !better(book, tour, &less.label, &more.label, 4));
-    let mut layers = Layers::new(alloc);
-    layers.push_layer(alloc)?;
-    layers.push_layer(alloc)?;
-    layers.push_layer(alloc)?;
-    layers.push_layer(alloc)?;
-    layers.push_layer(alloc)?;
+    let mut layers = layers_to_four(alloc)?;
     assert_eq!(rt; offer(book, tour, &mut layers, more)?, Offered::Kept);
     assert_eq!(rt;
         offer(book, tour, &mut layers, less)?,
         Offered::Covered { index: 0 }
     );
+    Ok(())
+}
+
+/// Checks that the number beside a layer comes above the progress of a label that it keeps whose
+/// state is ahead, and stays where a label is covered; the answers are those of `offer`.
+fn keeps_a_number_above_labels_ahead<B: RuleBook>(
+    rt: &impl Abort,
+    alloc: Global,
+    book: &B,
+    tour: &Tour,
+) -> Result<(), Fail>
+    requires tour { IsTour tour.now }
+    requires params { (B.machine book.now).params ≡ tour.now.params }
+{
+    let rested = state_at_four(book, tour, Activity::Serve, Activity::Off, Activity::Off)?;
+    let waited = state_at_four(book, tour, Activity::Wait, Activity::Wait, Activity::Wait)?;
+    let (Some(rested), Some(waited)) = (rested, waited) else {
+        assert!(rt; false);
+        return Ok(());
+    };
+    let more = kept_at_four(2, rested);
+    let less = kept_at_four(1, waited);
+    assert!(rt; book.ahead(&more.label.state));
+    let mut layers = layers_to_four(alloc)?;
+    let mut ahead_end = 0;
+    let first = offer_to(book, tour, &mut layers, &mut ahead_end, more)?;
+    assert_eq!(rt; first, Offered::Kept);
+    assert_eq!(rt; ahead_end, 3);
+    let second = offer_to(book, tour, &mut layers, &mut ahead_end, less)?;
+    assert_eq!(rt; second, Offered::Covered { index: 0 });
+    assert_eq!(rt; ahead_end, 3);
     Ok(())
 }
 
@@ -234,7 +273,8 @@ fn labels_of_two_short_stops(rt: HostRuntime) -> Result<(), Fail> {
         assert!(rt; false);
         return Ok(());
     };
-    waits_for_a_label_that_has_done_less(&rt, alloc, &book, &tour)
+    waits_for_a_label_that_has_done_less(&rt, alloc, &book, &tour)?;
+    keeps_a_number_above_labels_ahead(&rt, alloc, &book, &tour)
 }
 
 #[test]
