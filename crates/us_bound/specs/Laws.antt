@@ -1,0 +1,3 @@
+-- What follows from the definitions, for the contracts and proofs of this crate and of those above it.
+pub mod Rounding
+pub mod Units

@@ -1,0 +1,4 @@
+pub mod Projection
+pub mod Work
+pub mod LabelEnd
+pub mod Laws
