@@ -1,7 +1,8 @@
 -- The bound of a label.
-use Rattle.std.specs.Prelude.{◌≡◌, ℕ, ◌+◌, ◌-◌, ◌<◌, ◌≤◌, Bool, false, max, ◌⊎◌}
+use Rattle.std.specs.Prelude.{◌≡◌, ℕ, ◌+◌, ◌-◌, ◌<◌, ◌≤◌, Bool, true, false, max, ◌⊎◌, Option, Some}
 use Rattle.us_rules.specs.declared.state.UsState.{UsState}
 use Rattle.tour_model.specs.declared.tour.Tour.{Tour}
+use Rattle.tour_model.specs.declared.label.Label.{Label}
 use Rattle.tour_model.specs.Word.{word_length, may_idle}
 use Rattle.rest_bound.specs.declared.limits.Limits.{Limits}
 use Rattle.rest_bound.specs.declared.counts.Counts.{Counts}
@@ -16,8 +17,17 @@ pub record IsCountsEnd (plan : Plan) (l : Limits) (n p k : ℕ) (c : Counts) (ho
   pub made : b ≤ horizon → CanEnd plan l n p k c b
   pub beyond : horizon < b → b ≡ max k (horizon + 1)
 
--- The bound of a label of this progress and state at step k. No label has a run of rest in the midst of a service; of a state that has one there the bound is the step itself.
+-- No label has a run of rest in the midst of a service. A state that has one there has the step itself as its bound.
+pub record IsAstray (tour : Tour) (p : ℕ) (s : UsState) : Type 0 where
+  pub run : 0 < s.split.run.long
+  pub serving : may_idle tour p ≡ false
+
+-- The bound, at step k, of a label of this progress and state.
 abbrev pub IsLabelEnd : Tour → Bool → ℕ → ℕ → ℕ → UsState → ℕ → Type 0
 IsLabelEnd tour berth horizon k p s b =
-    ((0 < s.split.run.long) × (may_idle tour p ≡ false) × (b ≡ k))
-    ⊎ IsCountsEnd (plan_of tour) (limits_of berth tour.grid) (word_length tour - p) p k (counts_of tour.grid s) horizon b
+    (IsAstray tour p s × (b ≡ k))
+    ⊎ ((0 < s.split.run.long → may_idle tour p ≡ true) × IsCountsEnd (plan_of tour) (limits_of berth tour.grid) (word_length tour - p) p k (counts_of tour.grid s) horizon b)
+
+-- Each label has this bound.
+abbrev pub IsShiftBound : Tour → Bool → ℕ → (ℕ → Label UsState → Option ℕ) → Type 0
+IsShiftBound tour berth horizon bound = (k : ℕ) (l : Label UsState) → (b : ℕ) × (bound k l ≡ Some b) × IsLabelEnd tour berth horizon k l.progress l.state b

@@ -3,11 +3,13 @@
 #![tactic(auto)]
 
 mod counts;
+mod ends;
 mod limits;
 mod steps;
 mod tour_work;
 
 pub use counts::state_counts;
+pub use ends::{bound_law, label_end};
 pub use limits::shift_limits;
 pub use steps::MOST_GRID;
 pub use tour_work::TourWork;

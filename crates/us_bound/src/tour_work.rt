@@ -33,6 +33,13 @@ impl<'a> TourWork<'a> {
         Ok(TourWork { tour, pieces })
     }
 
+    /// The minutes of a step.
+    pub(crate) fn grid(&self) -> u32
+        ensures { result ≡ self.now.tour.now.grid }
+    {
+        self.tour.grid
+    }
+
     /// The first step from this one on at which the piece of this number may be done.
     fn first_step(&self, piece: usize, from: u32) -> Option<u32>
         ensures { result ≡ first_step (windows_at self.now.tour.now.stops) from (slice_get self.now.pieces.items piece) }

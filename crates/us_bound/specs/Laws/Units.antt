@@ -161,7 +161,7 @@ goes_rest berth days day_start (suc n) s at x u w e = elim (steady_nexts berth d
 -- # A step
 
 -- just after duty no run is in progress
-no_run_after : (d : Bool) (n : ℕ) (s c : SplitCount) → c ≡ repeated (after_duty d) (suc n) s → run_of c ≡ 0
+pub no_run_after : (d : Bool) (n : ℕ) (s c : SplitCount) → c ≡ repeated (after_duty d) (suc n) s → run_of c ≡ 0
 no_run_after d zero s c e = ap run_of e
 no_run_after d (suc n) s c e = no_run_after d n (after_duty d s) c e
 
