@@ -6,6 +6,8 @@ mod counts;
 mod ends;
 mod limits;
 mod steps;
+#[cfg(test)]
+mod tests;
 mod tour_work;
 
 pub use counts::state_counts;
