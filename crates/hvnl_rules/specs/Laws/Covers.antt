@@ -605,24 +605,23 @@ covered_pushed at run a b below h = elim (nat_le AU_LONG_START run) as (λ t. Ar
   | false ↦ h
 ]
 
+-- the longer rest passes each test of its length
+longer_passes : (least run more : ℕ) (rest : Bool) → run ≤ more → (nat_le least run && rest) ≡ true → (nat_le least more && rest) ≡ true
+longer_passes least run more rest l y =
+    let c = and_parts (nat_le least run) rest y in
+    let r = c.0 in
+    let m : least ≤ run = grind (arith, nat_tests) in
+    let n : least ≤ more = omega arith in
+    and_from (nat_le least more) rest (grind (arith, nat_tests)) c.1
+
 -- the longer rest gives each night its break
 rested_longer : (at more run date : ℕ) → run ≤ more → is_rested at run date ≡ true → is_rested at more date ≡ true
 rested_longer at more run date l e =
     let P = nat_le (DAY_MINUTES * date + minutes AU_NIGHT_REST) (at + minutes (1 + AU_NIGHT_BEFORE)) && nat_le (at + minutes 1) (DAY_MINUTES * date + minutes AU_NIGHT_AFTER) in
     let Q = nat_lt (at + minutes 1) (DAY_MINUTES * date + minutes AU_NIGHT_LONG_REST) in
     elim (or_cases (nat_le AU_NIGHT_REST run && P) (nat_le AU_NIGHT_LONG_REST run && Q) e) [
-      | inl y ↦
-          let c = and_parts (nat_le AU_NIGHT_REST run) P y in
-          let r = c.0 in
-          let m : AU_NIGHT_REST ≤ run = grind (arith, nat_tests) in
-          let n : AU_NIGHT_REST ≤ more = omega arith in
-          or_left (nat_le AU_NIGHT_REST more && P) (nat_le AU_NIGHT_LONG_REST more && Q) (and_from (nat_le AU_NIGHT_REST more) P (grind (arith, nat_tests)) c.1)
-      | inr y ↦
-          let c = and_parts (nat_le AU_NIGHT_LONG_REST run) Q y in
-          let r = c.0 in
-          let m : AU_NIGHT_LONG_REST ≤ run = grind (arith, nat_tests) in
-          let n : AU_NIGHT_LONG_REST ≤ more = omega arith in
-          or_right (nat_le AU_NIGHT_REST more && P) (nat_le AU_NIGHT_LONG_REST more && Q) (and_from (nat_le AU_NIGHT_LONG_REST more) Q (grind (arith, nat_tests)) c.1)
+      | inl y ↦ or_left (nat_le AU_NIGHT_REST more && P) (nat_le AU_NIGHT_LONG_REST more && Q) (longer_passes AU_NIGHT_REST run more P l y)
+      | inr y ↦ or_right (nat_le AU_NIGHT_REST more && P) (nat_le AU_NIGHT_LONG_REST more && Q) (longer_passes AU_NIGHT_LONG_REST run more Q l y)
     ]
 
 covered_dated : (at more run : ℕ) (a b : Nights) → run ≤ more → AreNightsCovered at a b → AreNightsCovered at (dated at more a) (dated at run b)

@@ -94,34 +94,24 @@ pub record IsNew (run u d : ℕ) : Type 0 where
 abbrev NewLike : ℕ → ℕ → ℕ → Type 0
 NewLike run u d = ((nat_le AU_SHORT_START run ≡ true) × OneLike short_limits u d) ⊎ ((nat_le AU_LONG_START run ≡ true) × OneLike long_limits u d)
 
+-- a period of the book, by its numbers
+new_of : (run u d start units duty : ℕ) → start ≤ run → Contains duty_periods (record { rested = start; units = units; asked = duty }) → (units ≡ u) × (duty ≡ d) → IsNew run u d
+new_of run u d start units duty l c e = record { kind = record { rested = start; units = units; asked = duty }; of_book = c; rested = l; units = e.0; asked = e.1 }
+
+-- one of a list of three
+of_three : (ls : List Limit) (p q r : Limit) (u d : ℕ) (P : Type 0) → ls ≡ p ∷ q ∷ r ∷ [] → (IsLike p u d → P) → (IsLike q u d → P) → (IsLike r u d → P) → OneLike ls u d → P
+of_three ls p q r u d P is f g k one = elim (subst (λ ps. OneLike ps u d) is one) [ inl e ↦ f e | inr b ↦ elim b [ inl e ↦ g e | inr c ↦ elim c [ inl e ↦ k e | inr z ↦ absurd z ] ] ]
+
 new_kind : (run u d : ℕ) → NewLike run u d → IsNew run u d
 new_kind run u d t = elim t [
   | inl a ↦
       let t = a.0 in
       let l : AU_SHORT_START ≤ run = grind (arith, nat_tests) in
-      elim a.1 [
-        | inl e ↦ record { kind = record { rested = AU_SHORT_START; units = AU_5H30_PERIOD; asked = AU_5H30_DUTY }; of_book = (0, omega arith, refl); rested = l; units = e.0; asked = e.1 }
-        | inr b0 ↦ elim b0 [
-          | inl e ↦ record { kind = record { rested = AU_SHORT_START; units = AU_8H_PERIOD; asked = AU_8H_DUTY }; of_book = (1, omega arith, refl); rested = l; units = e.0; asked = e.1 }
-          | inr b1 ↦ elim b1 [
-            | inl e ↦ record { kind = record { rested = AU_SHORT_START; units = AU_11H_PERIOD; asked = AU_11H_DUTY }; of_book = (2, omega arith, refl); rested = l; units = e.0; asked = e.1 }
-            | inr z ↦ absurd z
-          ]
-        ]
-      ]
+      of_three short_limits _ _ _ u d (IsNew run u d) refl (new_of run u d _ _ _ l (0, omega arith, refl)) (new_of run u d _ _ _ l (1, omega arith, refl)) (new_of run u d _ _ _ l (2, omega arith, refl)) a.1
   | inr a ↦
       let t = a.0 in
       let l : AU_LONG_START ≤ run = grind (arith, nat_tests) in
-      elim a.1 [
-        | inl e ↦ record { kind = record { rested = AU_LONG_START; units = AU_24H_PERIOD; asked = AU_24H_DUTY }; of_book = (3, omega arith, refl); rested = l; units = e.0; asked = e.1 }
-        | inr b0 ↦ elim b0 [
-          | inl e ↦ record { kind = record { rested = AU_LONG_START; units = AU_7D_PERIOD; asked = AU_7D_DUTY }; of_book = (4, omega arith, refl); rested = l; units = e.0; asked = e.1 }
-          | inr b1 ↦ elim b1 [
-            | inl e ↦ record { kind = record { rested = AU_LONG_START; units = AU_14D_PERIOD; asked = AU_14D_DUTY }; of_book = (5, omega arith, refl); rested = l; units = e.0; asked = e.1 }
-            | inr z ↦ absurd z
-          ]
-        ]
-      ]
+      of_three long_limits _ _ _ u d (IsNew run u d) refl (new_of run u d _ _ _ l (3, omega arith, refl)) (new_of run u d _ _ _ l (4, omega arith, refl)) (new_of run u d _ _ _ l (5, omega arith, refl)) a.1
 ]
 
 new_like : (run : ℕ) (kind : Period) → kind.rested ≤ run → Contains duty_periods kind → NewLike run kind.units kind.asked
