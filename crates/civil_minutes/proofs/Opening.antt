@@ -50,13 +50,20 @@ pub record Opens (text : List ℕ) (k : ℕ) : Type 0 where
   pub time : IsTime year month day hour minute
   pub agrees : Agrees text (time_text year month day hour minute) k
 
+-- the time of whose text these are the first bytes
+pub opens_time : {text : List ℕ} {k y m d h n : ℕ} → IsTime y m d h n → Agrees text (time_text y m d h n) k → Opens text k
+opens_time {text} {k} {y} {m} {d} {h} {n} time agrees = record { year = y; month = m; day = d; hour = h; minute = n; time = time; agrees = agrees }
+
+-- the time of which this is the text
+pub text_of_time : {text : List ℕ} {at y m d h n : ℕ} → IsTime y m d h n → text ≡ time_text y m d h n → pos at ≡ minutes_until y m d h n → IsTimeText text at
+text_of_time {text} {at} {y} {m} {d} {h} {n} time spelled counted = record { year = y; month = m; day = d; hour = h; minute = n; time = time; spelled = spelled; counted = counted }
+
 -- the bytes of that time
 abbrev pub opened : {text : List ℕ} {k : ℕ} → Opens text k → List ℕ
 opened o = time_text o.year o.month o.day o.hour o.minute
 
 pub opens_less : (text : List ℕ) (k j : ℕ) → j ≤ k → Opens text k → Opens text j
-opens_less text k j le o =
-    record { year = o.year; month = o.month; day = o.day; hour = o.hour; minute = o.minute; time = o.time; agrees = agrees_less _ _ k j le o.agrees }
+opens_less text k j le o = opens_time o.time (agrees_less _ _ k j le o.agrees)
 
 -- a number that is not negative is a natural one
 natural : (z : ℤ) → pos 0 ≤ℤ z → (n : ℕ) × (pos n ≡ z)
@@ -76,46 +83,21 @@ begins_from_opens text k o =
     record {
       rest = drop k (opened o);
       at = count.0;
-      whole = record {
-        year = o.year;
-        month = o.month;
-        day = o.day;
-        hour = o.hour;
-        minute = o.minute;
-        time = o.time;
-        spelled = ap (λ xs. xs ++ drop k (opened o)) o.agrees.same ∙ take-append-drop k (opened o);
-        counted = count.1;
-      };
+      whole = text_of_time o.time (ap (λ xs. xs ++ drop k (opened o)) o.agrees.same ∙ take-append-drop k (opened o)) count.1;
     }
 
 -- and the other way round
 pub opens_from_begins : (text : List ℕ) (k : ℕ) → k ≤ length text → BeginsTime (take k text) → Opens text k
 opens_from_begins text k inside b =
-    record {
-      year = b.whole.year;
-      month = b.whole.month;
-      day = b.whole.day;
-      hour = b.whole.hour;
-      minute = b.whole.minute;
-      time = b.whole.time;
-      agrees = record {
-        inside = inside;
-        same = sym (take_at (take k text) b.rest k (length-take-le k text inside)) ∙ ap (take k) b.whole.spelled;
-      };
-    }
+    opens_time b.whole.time
+    (record {
+      inside = inside;
+      same = sym (take_at (take k text) b.rest k (length-take-le k text inside)) ∙ ap (take k) b.whole.spelled;
+    })
 
 -- a whole time opens with each number of its bytes
 pub opens_from_text : (text : List ℕ) (at k : ℕ) → k ≤ 16 → IsTimeText text at → Opens text k
-opens_from_text text at k le h =
-    record {
-      year = h.year;
-      month = h.month;
-      day = h.day;
-      hour = h.hour;
-      minute = h.minute;
-      time = h.time;
-      agrees = record { inside = omega (arith, ap length h.spelled); same = ap (take k) h.spelled };
-    }
+opens_from_text text at k le h = opens_time h.time (record { inside = omega (arith, ap length h.spelled); same = ap (take k) h.spelled })
 
 -- where a text opens with k bytes of a time and with no more, it is bad from there
 pub bad_from : (text : List ℕ) (k : ℕ) → k < 16 → Opens text k → ¬ (Opens text (k + 1)) → IsBadFrom text k

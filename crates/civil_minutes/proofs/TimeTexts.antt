@@ -8,7 +8,7 @@ use Rattle.duty_core.specs.declared.limits.TheConstants.{DAY_MINUTES}
 use Rattle.civil_minutes.specs.Time.{digit, time_text, days_after_2000, minutes_until, IsTime, IsTimeText, IsBadFrom}
 use Rattle.civil_minutes.specs.Fields.{IsOfCentury, BeginsWithTime}
 use Rattle.civil_minutes.proofs.CenturyDates.{civil_from_date, same_parts}
-use Rattle.civil_minutes.proofs.Opening.{Opens, bad_after}
+use Rattle.civil_minutes.proofs.Opening.{Opens, opens_time, text_of_time, bad_after}
 use Rattle.civil_minutes.proofs.StopPlaces.{is_time, within_month}
 
 -- the number of two digits
@@ -60,16 +60,7 @@ time_begun text date minutes b = is_time date b.year date.day b.hour b.minute b.
 
 -- the first 16 bytes are those of a time
 opens_whole : (text : List ℕ) (date : Date) (minutes : ℕ) → 16 ≤ length text → BeginsWithTime text date minutes → Opens text 16
-opens_whole text date minutes long b =
-    record {
-      year = b.year;
-      month = date.month;
-      day = date.day;
-      hour = b.hour;
-      minute = b.minute;
-      time = time_begun text date minutes b;
-      agrees = record { inside = long; same = b.begins };
-    }
+opens_whole text date minutes long b = opens_time (time_begun text date minutes b) (record { inside = long; same = b.begins })
 
 -- a text that goes on after the time
 pub bad_end : (text : List ℕ) (date : Date) (minutes : ℕ) → BeginsWithTime text date minutes → 16 < length text → IsBadFrom text 16
@@ -78,29 +69,13 @@ bad_end text date minutes b long = bad_after text (opens_whole text date minutes
 -- a text that ends with the time
 pub time_read : (text : List ℕ) (date : Date) (minutes before : ℕ) → BeginsWithTime text date minutes → length text ≤ 16 → pos before ≡ days_after_2000 date.year date.month date.day *ℤ pos DAY_MINUTES → IsTimeText text (before + minutes)
 time_read text date minutes before b short e =
-    record {
-      year = b.year;
-      month = date.month;
-      day = date.day;
-      hour = b.hour;
-      minute = b.minute;
-      time = time_begun text date minutes b;
-      spelled = sym (take_all 16 text short) ∙ b.begins;
-      counted = rw (← b.of_century.is) (omega (arith, signed_arith, e, b.sum));
-    }
+    text_of_time (time_begun text date minutes b) (sym (take_all 16 text short) ∙ b.begins)
+    (rw (← b.of_century.is) (omega (arith, signed_arith, e, b.sum)))
 
 -- ---- what is written
 
 pub time_written : (at : ℕ) (date : Date) (year month day hour minute : ℕ) → date.year ≡ pos (2000 + year) → year < 100 → month ≡ date.month → day ≡ date.day → hour ≡ at % DAY_MINUTES / 60 → minute ≡ at % DAY_MINUTES % 60 → days_after_2000 date.year date.month date.day ≡ pos (at / DAY_MINUTES) → IsTimeText (time_text (2000 + year) month day hour minute) at
 time_written at date year month day hour minute is small month_is day_is hour_is minute_is days =
     let of : IsOfCentury date (2000 + year) = record { is = is; century = (omega arith, omega arith) } in
-    rw (month_is, day_is) record {
-      year = 2000 + year;
-      month = date.month;
-      day = date.day;
-      hour = hour;
-      minute = minute;
-      time = is_time date (2000 + year) date.day hour minute of (within_month date (2000 + year) of) (omega arith) (omega arith);
-      spelled = refl;
-      counted = rw (← is) (omega (arith, signed_arith, days));
-    }
+    let time : IsTime (2000 + year) date.month date.day hour minute = is_time date (2000 + year) date.day hour minute of (within_month date (2000 + year) of) (omega arith) (omega arith) in
+    rw (month_is, day_is) (text_of_time time refl (rw (← is) (omega (arith, signed_arith, days))))
