@@ -26,7 +26,7 @@ use Rattle.cert_text.specs.Text.Laws.MarkTextLaws.{GoodMark, mark_takes, mark_ag
 use Rattle.cert_text.specs.Text.Laws.LayerLaws.{GoodLabel, label_takes, label_again, layer_head_takes, layer_head_again}
 use Rattle.cert_text.specs.Text.Laws.CertTextLaws.{target_takes, target_again, kind_takes, kind_again}
 use Rattle.cert_text.proofs.Lines.{none_append}
-use Rattle.cert_text.proofs.Readers.{bind_err, not_both, word_left, Reads, StopsWithin, stops_here, line_reads}
+use Rattle.cert_text.proofs.Readers.{bind_err, not_both, word_alone, Reads, StopsWithin, stops_here, line_reads}
 use Rattle.cert_text.proofs.Within.{stays_then, stays_word, stays_end, test_left, plain_decimal, number_within, plain_dash, dash_within, plain_numbers, numbers_within, plain_letter, letter_within, plain_time, time_within, mark_word_within}
 use Rattle.cert_text.proofs.MinuteTexts.{minute_text}
 
@@ -97,11 +97,7 @@ target_reads = line_reads target_at (λ n. Unit {0}) SpellsTarget (record {
 
 kind_missing : (bytes : List ℕ) (o : Option (List ℕ)) (left : ℕ) → or_infeasible bytes o ≡ Err left → left ≡ length bytes
 kind_missing bytes (Some rest) left e = absurd (not_both (Shortest, rest) left e)
-kind_missing bytes None left e = go (bind_err (word_at (codes "kind infeasible\n") bytes) (λ rest. Ok (Infeasible, rest)) left e)
-  where
-    go : (word_at (codes "kind infeasible\n") bytes ≡ Err left) ⊎ ((x : List ℕ) × (word_at (codes "kind infeasible\n") bytes ≡ Ok x) × (◌≡◌ {A = Result (CertKind × List ℕ) ℕ} (Ok (Infeasible, x)) (Err left))) → left ≡ length bytes
-    go (inl h) = word_left (codes "kind infeasible\n") bytes left h
-    go (inr t) = absurd (not_both (Infeasible, t.0) left t.2)
+kind_missing bytes None left e = word_alone (codes "kind infeasible\n") bytes Infeasible left e
 
 kind_stops : (bytes : List ℕ) (left : ℕ) → kind_at bytes ≡ Err left → StopsWithin bytes left
 unfolding kind_at

@@ -22,6 +22,14 @@ or_left_left n (Some x) left e = absurd cc
 pub word_left : (word bytes : List ℕ) (left : ℕ) → word_at word bytes ≡ Err left → left ≡ length bytes
 word_left word bytes left e = or_left_left (length bytes) (strip_at word bytes) left e
 
+-- a word alone, which does not stand there
+pub word_alone : {X : Type 0} (word bytes : List ℕ) (x : X) (left : ℕ) → ◌≡◌ {A = Result (X × List ℕ) ℕ} (word_at word bytes >>= λ rest. Ok (x, rest)) (Err left) → left ≡ length bytes
+word_alone {X} word bytes x left e = go (bind_err (word_at word bytes) (λ rest. Ok (x, rest)) left e)
+  where
+    go : (word_at word bytes ≡ Err left) ⊎ ((rest : List ℕ) × (word_at word bytes ≡ Ok rest) × (◌≡◌ {A = Result (X × List ℕ) ℕ} (Ok (x, rest)) (Err left))) → left ≡ length bytes
+    go (inl h) = word_left word bytes left h
+    go (inr t) = absurd (not_both (x, t.0) left t.2)
+
 -- What a reader took: whole lines, which it takes again whatever follows.
 pub record Passes {X : Type 0} (p : List ℕ → Result (X × List ℕ) ℕ) (Good : X → Type 0) (bytes : List ℕ) (x : X) (rest : List ℕ) : Type 0 where
   pub count : ℕ
@@ -51,6 +59,11 @@ pub record Stops {X : Type 0} (p : List ℕ → Result (X × List ℕ) ℕ) (Goo
   pub fills : Fills p Good front
   pub stuck : (words thereafter tail : List ℕ) → line_feeds words ≡ 0 → within ++ at ≡ words ++ 10 ∷ thereafter → (y : X × List ℕ) → p (front ++ (words ++ 10 ∷ tail)) ≡ Ok y → ⊥
 
+-- where one reader stops, another stops that goes on no further
+stops_as : {X Y : Type 0} {p : List ℕ → Result (X × List ℕ) ℕ} {q : List ℕ → Result (Y × List ℕ) ℕ} {Good : X → Type 0} {Next : Y → Type 0} {bytes : List ℕ} {left : ℕ} (s : Stops p Good bytes left) → Fills q Next s.front →
+    ((words thereafter tail : List ℕ) → line_feeds words ≡ 0 → s.within ++ s.at ≡ words ++ 10 ∷ thereafter → (y : Y × List ℕ) → q (s.front ++ (words ++ 10 ∷ tail)) ≡ Ok y → ⊥) → Stops q Next bytes left
+stops_as s fills stuck = record { count = s.count; front = s.front; are_lines = s.are_lines; within = s.within; at = s.at; parts = s.parts; one = s.one; left_is = s.left_is; fills = fills; stuck = stuck }
+
 -- a reader of whole lines
 pub record Reads {X : Type 0} (p : List ℕ → Result (X × List ℕ) ℕ) (Good : X → Type 0) : Type 0 where
   pub fills : Fills p Good []
@@ -68,18 +81,7 @@ reads_weaker p Good Less f r = record {
   passes = λ bytes x e. let a = r.passes bytes x e in record { count = a.count; took = a.took; are_lines = a.are_lines; parts = a.parts; again = a.again; good = f x.0 a.good };
   stops = λ bytes left e.
       let s = r.stops bytes left e in
-      record {
-        count = s.count;
-        front = s.front;
-        are_lines = s.are_lines;
-        within = s.within;
-        at = s.at;
-        parts = s.parts;
-        one = s.one;
-        left_is = s.left_is;
-        fills = record { fill = s.fills.fill; value = s.fills.value; good = f s.fills.value s.fills.good; filled = s.fills.filled };
-        stuck = s.stuck;
-      };
+      stops_as s (record { fill = s.fills.fill; value = s.fills.value; good = f s.fills.value s.fills.good; filled = s.fills.filled }) s.stuck;
 }
 
 -- ---- nothing more
@@ -125,20 +127,11 @@ then_passes p Good f Next reads next bytes y e =
     }
 
 stops_first : {X Y : Type 0} (p : List ℕ → Result (X × List ℕ) ℕ) (Good : X → Type 0) (f : X → List ℕ → Result (Y × List ℕ) ℕ) (Next : Y → Type 0) → ((x : X) → Good x → Reads (f x) Next) → (bytes : List ℕ) (left : ℕ) → Stops p Good bytes left → Stops (and_then p f) Next bytes left
-stops_first p Good f Next next bytes left s = record {
-  count = s.count;
-  front = s.front;
-  are_lines = s.are_lines;
-  within = s.within;
-  at = s.at;
-  parts = s.parts;
-  one = s.one;
-  left_is = s.left_is;
-  fills = then_fills p Good f Next s.front s.fills (next s.fills.value s.fills.good);
-  stuck = λ words thereafter tail none same y h.
-      let x = bind_ok (p (s.front ++ (words ++ 10 ∷ tail))) (λ x. f x.0 x.1) y h in
-      s.stuck words thereafter tail none same x.0 x.1;
-}
+stops_first p Good f Next next bytes left s =
+    stops_as s (then_fills p Good f Next s.front s.fills (next s.fills.value s.fills.good))
+    (λ words thereafter tail none same y h.
+    let x = bind_ok (p (s.front ++ (words ++ 10 ∷ tail))) (λ x. f x.0 x.1) y h in
+    s.stuck words thereafter tail none same x.0 x.1)
 
 stops_later : {X Y : Type 0} (p : List ℕ → Result (X × List ℕ) ℕ) (Good : X → Type 0) (f : X → List ℕ → Result (Y × List ℕ) ℕ) (Next : Y → Type 0) (bytes : List ℕ) (x : X) (rest : List ℕ) (left : ℕ) → Passes p Good bytes x rest → Stops (f x) Next rest left → Stops (and_then p f) Next bytes left
 stops_later p Good f Next bytes x rest left a s = record {

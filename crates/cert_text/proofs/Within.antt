@@ -20,7 +20,7 @@ use Rattle.cert_text.specs.Text.Laws.RunLaws.{letter_takes}
 use Rattle.cert_text.specs.Text.Laws.MarkTextLaws.{time_takes, word_of, mark_word_takes}
 use Rattle.cert_text.specs.Text.Laws.LayerLaws.{dash_takes, numbers_take}
 use Rattle.cert_text.proofs.Lines.{none_append}
-use Rattle.cert_text.proofs.Readers.{bind_err, not_both, word_left, StopsWithin, stops_here}
+use Rattle.cert_text.proofs.Readers.{bind_err, not_both, word_left, word_alone, StopsWithin, stops_here}
 
 -- A reader within a line.
 pub record Within {X : Type 0} (p : List ℕ → Result (X × List ℕ) ℕ) : Type 0 where
@@ -211,11 +211,7 @@ plain_word true = refl
 
 word_missing : (bytes : List ℕ) (o : Option (List ℕ)) (left : ℕ) → or_defer bytes o ≡ Err left → left ≡ length bytes
 word_missing bytes (Some rest) left e = absurd (not_both (false, rest) left e)
-word_missing bytes None left e = go (bind_err (word_at (codes "defer ") bytes) (λ rest. Ok (true, rest)) left e)
-  where
-    go : (word_at (codes "defer ") bytes ≡ Err left) ⊎ ((x : List ℕ) × (word_at (codes "defer ") bytes ≡ Ok x) × (◌≡◌ {A = Result (Bool × List ℕ) ℕ} (Ok (true, x)) (Err left))) → left ≡ length bytes
-    go (inl h) = word_left (codes "defer ") bytes left h
-    go (inr t) = absurd (not_both (true, t.0) left t.2)
+word_missing bytes None left e = word_alone (codes "defer ") bytes true left e
 
 word_fails : (bytes : List ℕ) (left : ℕ) → mark_word_at bytes ≡ Err left → left ≡ length bytes
 unfolding mark_word_at
