@@ -11,7 +11,7 @@ use Rattle.cert_text.specs.declared.cert.CertKind.{CertKind}
 use Rattle.cert_text.specs.declared.cert.CertKind.TheVariants.{Shortest, Infeasible}
 use Rattle.cert_text.specs.declared.cert.CertLabel.{CertLabel}
 use Rattle.cert_text.specs.declared.cert.StepRun.{StepRun}
-use Rattle.cert_text.specs.CoverLists.Planning.{minute_of, state_at, problem_of, IsLogState}
+use Rattle.cert_text.specs.CoverLists.Planning.{minute_of, state_at, problem_by, eta_bound, IsLogState}
 use Rattle.cert_text.specs.CoverLists.Cover.{IsCoverList}
 
 -- the activities of run lines, one for each step
@@ -40,9 +40,13 @@ abbrev pub IsClaim : Tour → List Activity → CertKind → Option ℕ → List
 IsClaim tour log Shortest target schedule marks = IsSolutionWith tour log schedule marks × (target ≡ Some (duration schedule))
 IsClaim tour log Infeasible target schedule marks = (target ≡ None) × (schedule ≡ []) × (marks ≡ [])
 
--- A valid certificate of a tour after a log, by a book: it holds what its kind claims, and its layers stand for a cover list for its target.
-pub record IsValidCert {S : Type 0} (tour : Tour) (log : List Activity) (m : Machine S) (cert : Cert) : Type 0 where
+-- A valid certificate of a tour after a log, by a book and a bound on labels: it holds what its kind claims, and its layers stand for a cover list for its target.
+pub record IsValidCertBy {S : Type 0} (tour : Tour) (log : List Activity) (m : Machine S) (bound : ℕ → ℕ → S → Option ℕ) (cert : Cert) : Type 0 where
   pub claim : IsClaim tour log cert.kind cert.target (acts_of_runs cert.schedule) cert.marks
   pub layers : List (List (Label S))
   pub listed : AreLayersOf m.state_of tour 0 cert.layers layers
-  pub covers : IsCoverList (problem_of tour m) (state_at tour m) (IsLogState tour log m) cert.target layers
+  pub covers : IsCoverList (problem_by tour m bound) (state_at tour m) (IsLogState tour log m) cert.target layers
+
+-- The same by the earliest end with no rules.
+abbrev pub IsValidCert : {S : Type 0} → Tour → List Activity → Machine S → Cert → Type 0
+IsValidCert tour log m cert = IsValidCertBy tour log m (eta_bound tour) cert

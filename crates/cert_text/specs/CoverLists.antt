@@ -3,4 +3,5 @@ pub mod Problem
 pub mod Planning
 pub mod Cover
 pub mod Continuation
+pub mod Bound
 pub mod Laws

@@ -1,6 +1,6 @@
 -- The search problem of a tour and a book has the laws that a search asks for.
 use Rattle.std.proofs.Common.{◌≡◌, ℕ, ◌+◌, ◌*◌, ◌/◌, ◌<◌, ◌≤◌, Bool, true, false, not, cond, zero, suc, List, [], ◌∷◌, ◌++◌, length, length-append, replicate, refl, sym, ◌∙◌, ap, subst, arith}
-use Rattle.std.specs.Prelude.{All, Contains}
+use Rattle.std.specs.Prelude.{All, Contains, Option}
 use Rattle.std.specs.Option.{option_to_list}
 use Rattle.std.proofs.lemmas.List.{length-replicate}
 use Rattle.std.proofs.lemmas.List.Elements.{All-nil, All-cons, All-head, All-tail, All-replicate, All-contains}
@@ -18,6 +18,7 @@ use Rattle.rule_core.specs.TourRest.{tour_rest}
 use Rattle.rule_core.specs.Machine.{Machine}
 use Rattle.rule_core.specs.Book.{IsBook}
 use Rattle.tour_model.specs.declared.tour.Tour.{Tour}
+use Rattle.tour_model.specs.declared.label.Label.{Label}
 use Rattle.tour_model.specs.declared.stop.Stop.{Stop}
 use Rattle.tour_model.specs.declared.piece.Piece.TheVariants as piece
 use Rattle.tour_model.specs.Tour.{grids_in, IsStop, IsTour}
@@ -31,7 +32,9 @@ use Rattle.tour_model.specs.declared.limits.TheConstants.{MOST_DRIVE, MOST_SERVI
 use Rattle.tour_model.proofs.PieceLaws.{length-word}
 use Rattle.std.proofs.Math.Nat.{mul-le-mul_left}
 use Rattle.tour_model.specs.Schedule.{step_units}
-use Rattle.cert_text.specs.CoverLists.Planning.{minute_of, state_at, problem_of}
+use Rattle.cert_text.specs.CoverLists.Planning.{minute_of, state_at, problem_by, problem_of, eta_bound}
+use Rattle.cert_text.specs.CoverLists.Bound.{ObeysBound, IsBoundOf, eta_bounds}
+use Rattle.cert_text.specs.CoverLists.Problem.{successors_of}
 use Rattle.cert_text.specs.CoverLists.Laws.ProblemLaws.{IsProblem}
 
 -- each step of driving or service is an activity that a schedule may hold
@@ -220,10 +223,10 @@ word_few tour t =
     let stops = t.few_stops in
     omega arith
 
--- the laws of the problem
-pub problem_laws : {S : Type 0} (tour : Tour) (m : Machine S) → IsBook tour.params m → IsTour tour →
-    IsProblem (problem_of tour m) (state_at tour m) (allows tour.params)
-problem_laws tour m law t = record {
+-- the laws of the problem, by a bound that obeys its laws
+pub problem_laws_by : {S : Type 0} (tour : Tour) (m : Machine S) (bound : ℕ → ℕ → S → Option ℕ) → IsBook tour.params m → IsTour tour → ObeysBound tour m bound →
+    IsProblem (problem_by tour m bound) (state_at tour m) (allows tour.params)
+problem_laws_by tour m bound law t obeys = record {
   goal_some = word_some tour t;
   next_is = step_state tour m law t;
   itself = λ s k i. law.covers_itself s (minute_of tour k) i;
@@ -239,8 +242,29 @@ problem_laws tour m law t = record {
   rest_idle = rest_idle tour.params;
   rest_allowed = rest_allowed tour.params;
   ahead_rests = step_rests tour m law t;
-  bounded = record {
-    full = λ k l ends. ap (eta_of tour k) ends ∙ eta_full tour k;
-    before = λ k l x n e here may ok o by. (let q = eta_before tour k l.progress x e may by in record { at = q.0; is = q.1; by = q.2 });
-  };
+  bounded = obeys;
 }
+
+-- the earliest end with no rules does
+pub eta_obeys : {S : Type 0} (tour : Tour) (m : Machine S) → ObeysBound tour m (eta_bound tour)
+eta_obeys tour m = record {
+  full = λ k l ends. ap (eta_of tour k) ends ∙ eta_full tour k;
+  before = λ k l x n e here may ok o by. (let q = eta_before tour k l.progress x e may by in record { at = q.0; is = q.1; by = q.2 });
+}
+
+-- and it is a bound of the tour
+pub eta_is_bound : {S : Type 0} (tour : Tour) (m : Machine S) → IsTour tour → IsBoundOf tour m (eta_bounds tour)
+eta_is_bound tour m t = record {
+  asked_early = λ step progress few within. (t, within, few);
+  asked = λ step progress s few within there. tt;
+  sooner = λ step progress s e few within there is. record { at = e; is = is; by = omega arith };
+}
+
+pub problem_laws : {S : Type 0} (tour : Tour) (m : Machine S) → IsBook tour.params m → IsTour tour →
+    IsProblem (problem_of tour m) (state_at tour m) (allows tour.params)
+problem_laws tour m law t = problem_laws_by tour m (eta_bound tour) law t (eta_obeys tour m)
+
+-- What does not read the bound is the same by each: a label's successors.
+pub successors_by : {S : Type 0} (tour : Tour) (m : Machine S) (bound : ℕ → ℕ → S → Option ℕ) (step : ℕ) (l : Label S) → successors_of (problem_of tour m) step l ≡ successors_of (problem_by tour m bound) step l
+unfolding successors_of
+successors_by tour m bound step l = refl
