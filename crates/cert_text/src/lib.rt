@@ -10,7 +10,8 @@ mod text;
 
 pub use cert::{Cert, CertKind, CertLabel, CertLabels, CertLayers, StepRun, StepRuns};
 pub use cover_lists::{
-    Grown, cover_lists_prove, departs_later, is_pruned, may_idle_after, minute_at,
+    EtaBound, Grown, LabelBound, cover_lists_prove, departs_later, is_pruned, may_idle_after,
+    minute_at,
 };
 pub use text::{
     CERT_LIMIT, CertFault, MOST_LABELS, cert_texts_fit, certs_are_spelled_once, read_cert,
