@@ -1,6 +1,6 @@
 -- Successors put together, answered one by one.
-use Rattle.std.proofs.Common.{◌≡◌, ℕ, ◌+◌, ◌*◌, Bool, true, false, List, [], ◌∷◌, ◌++◌, length, replicate, refl, sym, ◌∙◌, ap, subst, inl, inr, Decides}
-use Rattle.std.specs.Prelude.{Option, map, if◌then◌else◌}
+use Rattle.std.proofs.Common.{◌≡◌, ℕ, ◌+◌, ◌*◌, Bool, true, false, List, [], ◌∷◌, ◌++◌, length, replicate, refl, sym, ◌∙◌, ap, subst, inl, inr, Decides, arith}
+use Rattle.std.specs.Prelude.{Option, None, Some, map, if◌then◌else◌, ◌-◌, ◌≤◌}
 use Rattle.std.specs.Option.{option_to_list}
 use Rattle.duty_core.specs.declared.activity.Activity.{Activity}
 use Rattle.duty_core.specs.declared.activity.Activity.TheVariants.{Drive, Serve}
@@ -22,44 +22,64 @@ use Rattle.cert_text.specs.CoverLists.Laws.ProblemOf.{minute_more}
 use Rattle.cert_text.specs.CoverLists.Laws.BetterLaws.{grown_from, grown_may, successor_by}
 use Rattle.cert_text.specs.CoverLists.Cover.{IsPrunedAt, IsPruned, IsCovered}
 use Rattle.cert_checker.proofs.LabelLaws.{not_so}
-use Rattle.cert_checker.specs.Conditions.{AreAnswered, AreCovered}
+use Rattle.tour_model.specs.Laws.WindowLaws.{IsBy}
+use Rattle.cert_checker.specs.declared.answered.Made.{Made}
+use Rattle.cert_checker.specs.Conditions.{AreAnswered, IsPrunedOrCovered}
+use Rattle.cert_checker.specs.Made.{made_label, AreStatesAnswered}
 
 -- ---- the states of a step, one by one
 
-covered_both : {S : Type 0} (problem : Problem S) (step : ℕ) (layer : List (Label S)) (depart : Option ℕ) (progress : ℕ) (a b : List (Next S)) → AreCovered problem step layer depart progress a → AreCovered problem step layer depart progress b → AreCovered problem step layer depart progress (a ++ b)
-covered_both problem step layer depart progress a b h k n o = elim (one_of-append a b n o) [ inl x ↦ h n x | inr y ↦ k n y ]
+-- what is not pruned is answered where it is covered
+pub unpruned_covered : {S : Type 0} (problem : Problem S) (target : Option ℕ) (step : ℕ) (layer : List (Label S)) (l : Label S) (b : Bool) → (IsPruned problem target step l → ⊥) → Decides b (IsCovered problem step layer l) → Decides b (IsPrunedOrCovered problem target step layer l)
+unpruned_covered problem target step layer l b off d = ((λ t. inr (d.0 t)), (λ h. elim h [ inl p ↦ absurd (off p) | inr c ↦ d.1 c ]))
 
-covered_left : {S : Type 0} (problem : Problem S) (step : ℕ) (layer : List (Label S)) (depart : Option ℕ) (progress : ℕ) (a b : List (Next S)) → AreCovered problem step layer depart progress (a ++ b) → AreCovered problem step layer depart progress a
-covered_left problem step layer depart progress a b h n o = h n (one_of-append_left a b n o)
+answered_both : {S : Type 0} (problem : Problem S) (target : Option ℕ) (step : ℕ) (layer : List (Label S)) (made : Made) (a b : List (Next S)) → AreStatesAnswered problem target step layer made a → AreStatesAnswered problem target step layer made b → AreStatesAnswered problem target step layer made (a ++ b)
+answered_both problem target step layer made a b h k n o = elim (one_of-append a b n o) [ inl x ↦ h n x | inr y ↦ k n y ]
 
-covered_right : {S : Type 0} (problem : Problem S) (step : ℕ) (layer : List (Label S)) (depart : Option ℕ) (progress : ℕ) (a b : List (Next S)) → AreCovered problem step layer depart progress (a ++ b) → AreCovered problem step layer depart progress b
-covered_right problem step layer depart progress a b h n o = h n (one_of-append_right a b n o)
+answered_left : {S : Type 0} (problem : Problem S) (target : Option ℕ) (step : ℕ) (layer : List (Label S)) (made : Made) (a b : List (Next S)) → AreStatesAnswered problem target step layer made (a ++ b) → AreStatesAnswered problem target step layer made a
+answered_left problem target step layer made a b h n o = h n (one_of-append_left a b n o)
 
-pub three_covered : {S : Type 0} (problem : Problem S) (step : ℕ) (layer : List (Label S)) (depart : Option ℕ) (progress : ℕ) (n : Nexts S) → AreCovered problem step layer depart progress (option_to_list n.a) → AreCovered problem step layer depart progress (option_to_list n.b) →
-    AreCovered problem step layer depart progress (option_to_list n.c) → AreCovered problem step layer depart progress (listed n)
-three_covered problem step layer depart progress n x y z =
+answered_right : {S : Type 0} (problem : Problem S) (target : Option ℕ) (step : ℕ) (layer : List (Label S)) (made : Made) (a b : List (Next S)) → AreStatesAnswered problem target step layer made (a ++ b) → AreStatesAnswered problem target step layer made b
+answered_right problem target step layer made a b h n o = h n (one_of-append_right a b n o)
+
+pub three_answered : {S : Type 0} (problem : Problem S) (target : Option ℕ) (step : ℕ) (layer : List (Label S)) (made : Made) (n : Nexts S) → AreStatesAnswered problem target step layer made (option_to_list n.a) → AreStatesAnswered problem target step layer made (option_to_list n.b) →
+    AreStatesAnswered problem target step layer made (option_to_list n.c) → AreStatesAnswered problem target step layer made (listed n)
+three_answered problem target step layer made n x y z =
     let a = option_to_list n.a in let b = option_to_list n.b in let c = option_to_list n.c in
-    covered_both problem step layer depart progress a (b ++ c) x (covered_both problem step layer depart progress b c y z)
+    answered_both problem target step layer made a (b ++ c) x (answered_both problem target step layer made b c y z)
 
--- Each of the three is covered.
-pub record AreThree {S : Type 0} (problem : Problem S) (step : ℕ) (layer : List (Label S)) (depart : Option ℕ) (progress : ℕ) (n : Nexts S) : Type 0 where
-  pub a : AreCovered problem step layer depart progress (option_to_list n.a)
-  pub b : AreCovered problem step layer depart progress (option_to_list n.b)
-  pub c : AreCovered problem step layer depart progress (option_to_list n.c)
+-- Each of the three is answered.
+pub record AreThree {S : Type 0} (problem : Problem S) (target : Option ℕ) (step : ℕ) (layer : List (Label S)) (made : Made) (n : Nexts S) : Type 0 where
+  pub a : AreStatesAnswered problem target step layer made (option_to_list n.a)
+  pub b : AreStatesAnswered problem target step layer made (option_to_list n.b)
+  pub c : AreStatesAnswered problem target step layer made (option_to_list n.c)
 
-pub covered_three : {S : Type 0} (problem : Problem S) (step : ℕ) (layer : List (Label S)) (depart : Option ℕ) (progress : ℕ) (n : Nexts S) → AreCovered problem step layer depart progress (listed n) → AreThree problem step layer depart progress n
-covered_three problem step layer depart progress n h =
+pub answered_three : {S : Type 0} (problem : Problem S) (target : Option ℕ) (step : ℕ) (layer : List (Label S)) (made : Made) (n : Nexts S) → AreStatesAnswered problem target step layer made (listed n) → AreThree problem target step layer made n
+answered_three problem target step layer made n h =
     let a = option_to_list n.a in let b = option_to_list n.b in let c = option_to_list n.c in
-    let r = covered_right problem step layer depart progress a (b ++ c) h in
-    record { a = covered_left problem step layer depart progress a (b ++ c) h; b = covered_left problem step layer depart progress b c r; c = covered_right problem step layer depart progress b c r }
+    let r = answered_right problem target step layer made a (b ++ c) h in
+    record { a = answered_left problem target step layer made a (b ++ c) h; b = answered_left problem target step layer made b c r; c = answered_right problem target step layer made b c r }
 
 -- one state
-pub one_covered : {S : Type 0} (problem : Problem S) (step : ℕ) (layer : List (Label S)) (depart : Option ℕ) (progress : ℕ) (n : Next S) (b : Bool) → Decides b (IsCovered problem step layer (record { depart = depart; progress = progress; state = n.state })) →
-    Decides b (AreCovered problem step layer depart progress (n ∷ []))
-one_covered problem step layer depart progress n b d = (
-  (λ t m o. elim o [ inl f ↦ subst (λ k. IsCovered problem step layer (record { depart = depart; progress = progress; state = k.state })) f (d.0 t) | inr z ↦ absurd z ]),
+pub one_answered : {S : Type 0} (problem : Problem S) (target : Option ℕ) (step : ℕ) (layer : List (Label S)) (made : Made) (n : Next S) (b : Bool) → Decides b (IsPrunedOrCovered problem target step layer (made_label made n.state)) →
+    Decides b (AreStatesAnswered problem target step layer made (n ∷ []))
+one_answered problem target step layer made n b d = (
+  (λ t m o. elim o [ inl f ↦ subst (λ k. IsPrunedOrCovered problem target step layer (made_label made k.state)) f (d.0 t) | inr z ↦ absurd z ]),
   (λ a. d.1 (a n (inl refl))),
 )
+
+-- a later bound prunes what an earlier one does
+pub pruned_later : (target depart early bound : Option ℕ) → ((e : ℕ) → bound ≡ Some e → IsBy early e) → IsPrunedAt target depart early → IsPrunedAt target depart bound
+pruned_later target depart early None by h = tt
+pruned_later target depart None (Some e) by h = absurd (let z = (by e refl).is in cc)
+pruned_later target None (Some a) (Some e) by h = absurd h
+pruned_later None (Some d) (Some a) (Some e) by h = absurd h
+pruned_later (Some t) (Some d) (Some a) (Some e) by h =
+    let q = by e refl in
+    let f : a ≡ q.at = (let z = q.is in cc) in
+    let le = q.by in
+    let takes : t ≤ a - d = h in
+    (let r : t ≤ e - d = omega arith in r)
 
 -- ---- by each activity
 
@@ -113,29 +133,25 @@ label_grown step l x n depart progress d p =
     ap (λ o. record { depart = o; progress = progress; state = n.state }) d ∙ ap (λ k. record { depart = departed l.depart x step; progress = k; state = n.state }) p
 
 -- where they are pruned
-pub off_answered : {S : Type 0} (problem : Problem S) (target : Option ℕ) (step : ℕ) (layer : List (Label S)) (l : Label S) (x : Activity) (depart : Option ℕ) → depart ≡ departed l.depart x step →
-    (bound : Option ℕ) → ((n : Next S) → problem.bound (step + 1) (grow l step x n).label ≡ bound) → IsPrunedAt target depart bound → AreAnswered problem target (step + 1) layer (grown_by problem step l x)
-off_answered problem target step layer l x depart d bound same h g o =
+pub off_answered : {S : Type 0} (problem : Problem S) (target : Option ℕ) (step : ℕ) (layer : List (Label S)) (l : Label S) (x : Activity) →
+    ((n : Next S) → IsOneOf (problem.nexts l.state step x) n → IsPruned problem target (step + 1) (grow l step x n).label) → AreAnswered problem target (step + 1) layer (grown_by problem step l x)
+off_answered problem target step layer l x h g o =
     let q = in_grown problem step l x g o in
-    inl (subst (λ k. IsPruned problem target (step + 1) k.label) q.2
-    (subst (IsPrunedAt target (departed l.depart x step)) (sym (same q.0)) (subst (λ k. IsPrunedAt target k bound) d h)))
+    inl (subst (λ k. IsPruned problem target (step + 1) k.label) q.2 (h q.0 q.1))
 
--- where they are not
-pub covered_answered : {S : Type 0} (problem : Problem S) (target : Option ℕ) (step : ℕ) (layer : List (Label S)) (l : Label S) (x : Activity) (depart : Option ℕ) (progress : ℕ) (ns : List (Next S)) (b : Bool) → depart ≡ departed l.depart x step → progress ≡ done l.progress x →
-    problem.may step l.progress x ≡ true → ns ≡ problem.nexts l.state step x → (bound : Option ℕ) → ((n : Next S) → problem.bound (step + 1) (grow l step x n).label ≡ bound) → (IsPrunedAt target depart bound → ⊥) → Decides b (AreCovered problem (step + 1) layer depart progress ns) → Decides b (AreAnswered problem target (step + 1) layer (grown_by problem step l x))
-covered_answered problem target step layer l x depart progress ns b d p may e bound same not_off c = (
+-- where it is asked of each
+pub made_answered : {S : Type 0} (problem : Problem S) (target : Option ℕ) (step : ℕ) (layer : List (Label S)) (l : Label S) (x : Activity) (made : Made) (ns : List (Next S)) (b : Bool) → made.depart ≡ departed l.depart x step → made.progress ≡ done l.progress x →
+    problem.may step l.progress x ≡ true → ns ≡ problem.nexts l.state step x → Decides b (AreStatesAnswered problem target (step + 1) layer made ns) → Decides b (AreAnswered problem target (step + 1) layer (grown_by problem step l x))
+made_answered problem target step layer l x made ns b d p may e c = (
   (λ t g o. (
       let q = in_grown problem step l x g o in
       let here = c.0 t q.0 (subst (λ ys. IsOneOf ys q.0) (sym e) q.1) in
-      inr (subst (λ k. IsCovered problem (step + 1) layer k.label) q.2 (subst (λ k. IsCovered problem (step + 1) layer k) (label_grown step l x q.0 depart progress d p) here))
+      subst (λ k. IsPrunedOrCovered problem target (step + 1) layer k.label) q.2 (subst (λ k. IsPrunedOrCovered problem target (step + 1) layer k) (label_grown step l x q.0 made.depart made.progress d p) here)
       )),
   (λ h. c.1 (λ n i. (
       let g = grow l step x n in
       let o : IsOneOf (grown_by problem step l x) g = subst (λ gs. IsOneOf gs g) (by_nexts problem step l x ns may e) (one_of_map (grow l step x) ns n i) in
-      elim (h g o) [
-        | inl off ↦ absurd (not_off (subst (λ k. IsPrunedAt target k bound) (sym d) (subst (IsPrunedAt target (departed l.depart x step)) (same n) off)))
-        | inr covered ↦ subst (λ k. IsCovered problem (step + 1) layer k) (sym (label_grown step l x n depart progress d p)) covered
-      ]
+      subst (λ k. IsPrunedOrCovered problem target (step + 1) layer k) (sym (label_grown step l x n made.depart made.progress d p)) (h g o)
       ))),
 )
 

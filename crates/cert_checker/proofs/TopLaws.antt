@@ -17,11 +17,12 @@ use Rattle.cert_text.specs.declared.cert.Cert.{Cert}
 use Rattle.cert_text.specs.declared.cert.CertKind.{CertKind}
 use Rattle.cert_text.specs.declared.cert.CertKind.TheVariants.{Shortest, Infeasible}
 use Rattle.cert_text.specs.CoverLists.Problem.{Problem, root_label, is_better}
-use Rattle.cert_text.specs.CoverLists.Planning.{problem_of, state_at, minute_of, IsLogState}
+use Rattle.cert_text.specs.CoverLists.Planning.{problem_by, problem_of, state_at, minute_of, IsLogState}
 use Rattle.cert_text.specs.CoverLists.Laws.ProblemOf.{problem_laws}
 use Rattle.cert_text.specs.CoverLists.Laws.BetterLaws.{better_from, better_on}
-use Rattle.cert_text.specs.CoverLists.Laws.SolutionLaws.{log_ends, log_state, valid_shortest, valid_infeasible}
-use Rattle.cert_text.specs.Cert.{acts_of_runs, IsClaim, IsValidCert}
+use Rattle.cert_text.specs.CoverLists.Laws.SolutionLaws.{log_ends, log_state, valid_shortest_by, valid_infeasible_by}
+use Rattle.cert_text.specs.CoverLists.Bound.{ObeysBound}
+use Rattle.cert_text.specs.Cert.{acts_of_runs, IsClaim, IsValidCertBy}
 use Rattle.cert_checker.specs.declared.verdict.Reason.{Reason}
 use Rattle.cert_checker.specs.declared.verdict.Reason.TheVariants as reason
 use Rattle.cert_checker.specs.declared.verdict.Rejection.{Rejection}
@@ -29,7 +30,7 @@ use Rattle.cert_checker.specs.declared.verdict.Verdict.{Verdict}
 use Rattle.cert_checker.specs.declared.verdict.Verdict.TheVariants as verdict
 use Rattle.cert_checker.specs.Conditions.{Passes, FailsBy, IsFirstLabel}
 use Rattle.cert_checker.specs.Rooted.{AreRooted}
-use Rattle.cert_checker.specs.Verdicts.{IsSmallCert, StepsHold, StepsFail, ClaimHolds, IsStarted, IsVerdict, Proves, verdict_of}
+use Rattle.cert_checker.specs.Verdicts.{IsSmallCert, StepsHold, StepsFail, ClaimHolds, IsStarted, IsVerdictBy, Proves, verdict_of}
 use Rattle.cert_checker.proofs.ValidLaws.{valid_passes}
 
 -- ---- the roots
@@ -82,9 +83,9 @@ steps_fail tour log cert xs reason.Finished f h = f
 steps_fail tour log cert xs reason.Repeated f h = f
 steps_fail tour log cert xs reason.Successor f h = f
 
-pub claim_fails : {S : Type 0} (tour : Tour) (log : List Activity) (m : Machine S) (cert : Cert) (r : Reason) →
-    cert.kind ≡ Shortest → StepsFail tour log cert (acts_of_runs cert.schedule) r → IsValidCert tour log m cert → ⊥
-claim_fails tour log m cert r k f v = steps_fail tour log cert (acts_of_runs cert.schedule) r f (steps_of_claim tour log cert k v.claim)
+pub claim_fails : {S : Type 0} (tour : Tour) (log : List Activity) (m : Machine S) (bound : ℕ → ℕ → S → Option ℕ) (cert : Cert) (r : Reason) →
+    cert.kind ≡ Shortest → StepsFail tour log cert (acts_of_runs cert.schedule) r → IsValidCertBy tour log m bound cert → ⊥
+claim_fails tour log m bound cert r k f v = steps_fail tour log cert (acts_of_runs cert.schedule) r f (steps_of_claim tour log cert k v.claim)
 
 -- ---- the labels
 
@@ -102,10 +103,10 @@ fails_passes problem is_state target step earlier next (Some l) reason.Length f 
 fails_passes problem is_state target step earlier next (Some l) reason.Lawful f p = f
 fails_passes problem is_state target step earlier next (Some l) reason.Root f p = f
 
-pub label_fails : {S : Type 0} (tour : Tour) (log : List Activity) (m : Machine S) (cert : Cert) (first : ℕ) (r : Rejection) →
-    IsFirstLabel (problem_of tour m) (state_at tour m) m.state_of tour cert.target cert.layers first r → IsValidCert tour log m cert → ⊥
-label_fails tour log m cert first r f v =
-    fails_passes (problem_of tour m) (state_at tour m) cert.target f.step _ _ _ f.fault.reason f.here.fails (valid_passes tour log m cert v f.step f.fault.index f.here.within)
+pub label_fails : {S : Type 0} (tour : Tour) (log : List Activity) (m : Machine S) (bound : ℕ → ℕ → S → Option ℕ) (cert : Cert) (first : ℕ) (r : Rejection) →
+    IsFirstLabel (problem_by tour m bound) (state_at tour m) m.state_of tour cert.target cert.layers first r → IsValidCertBy tour log m bound cert → ⊥
+label_fails tour log m bound cert first r f v =
+    fails_passes (problem_by tour m bound) (state_at tour m) cert.target f.step _ _ _ f.fault.reason f.here.fails (valid_passes tour log m bound cert v f.step f.fault.index f.here.within)
 
 -- ---- the verdict
 
@@ -117,20 +118,20 @@ infeasible_kind : (tour : Tour) (log : List Activity) (cert : Cert) (k : CertKin
 infeasible_kind tour log cert Infeasible e t h = e
 infeasible_kind tour log cert Shortest e t h = absurd (let q = (steps_of_claim tour log cert e h).1 in let f : None ≡ Some _ = sym t ∙ q in cc)
 
-pub accepted_is : {S : Type 0} (tour : Tour) (log : List Activity) (m : Machine S) (cert : Cert) (o : Option ℕ) → cert.target ≡ o → IsSmallCert cert →
-    IsValidCert tour log m cert → IsVerdict tour log m cert (verdict_of o)
-accepted_is tour log m cert None t s v = (v, infeasible_kind tour log cert cert.kind refl t v.claim)
-accepted_is tour log m cert (Some n) t s v = (v, shortest_kind cert cert.kind n refl t s.none, t)
+pub accepted_is : {S : Type 0} (tour : Tour) (log : List Activity) (m : Machine S) (bound : ℕ → ℕ → S → Option ℕ) (cert : Cert) (o : Option ℕ) → cert.target ≡ o → IsSmallCert cert →
+    IsValidCertBy tour log m bound cert → IsVerdictBy tour log m bound cert (verdict_of o)
+accepted_is tour log m bound cert None t s v = (v, infeasible_kind tour log cert cert.kind refl t v.claim)
+accepted_is tour log m bound cert (Some n) t s v = (v, shortest_kind cert cert.kind n refl t s.none, t)
 
 -- what a verdict proves
-pub verdict_proves : {S : Type 0} (tour : Tour) (log : List Activity) (m : Machine S) → IsBook tour.params m → IsTour tour → unit_minutes tour.params * length log ≤ LONGEST_LOG → (cert : Cert) (v : Verdict) →
-    IsVerdict tour log m cert v → Proves tour log cert v
-verdict_proves tour log m law t l cert (verdict.Shortest steps) h =
+pub verdict_proves : {S : Type 0} (tour : Tour) (log : List Activity) (m : Machine S) (bound : ℕ → ℕ → S → Option ℕ) → IsBook tour.params m → IsTour tour → ObeysBound tour m bound → unit_minutes tour.params * length log ≤ LONGEST_LOG → (cert : Cert) (v : Verdict) →
+    IsVerdictBy tour log m bound cert v → Proves tour log cert v
+verdict_proves tour log m bound law t obeys l cert (verdict.Shortest steps) h =
     let claim = steps_of_claim tour log cert h.1 h.0.claim in
     record {
       solves = record { serves = claim.0; lawful = claim.2 };
-      shortest = valid_shortest tour log m law t l cert h.0 h.1;
+      shortest = valid_shortest_by tour log m bound law t obeys l cert h.0 h.1;
       takes = (let e : Some (duration (acts_of_runs cert.schedule)) ≡ Some steps = sym claim.1 ∙ h.2 in cc);
     }
-verdict_proves tour log m law t l cert verdict.Infeasible h = valid_infeasible tour log m law t l cert h.0 h.1
-verdict_proves tour log m law t l cert (verdict.Rejected line reason) h = tt
+verdict_proves tour log m bound law t obeys l cert verdict.Infeasible h = valid_infeasible_by tour log m bound law t obeys l cert h.0 h.1
+verdict_proves tour log m bound law t obeys l cert (verdict.Rejected line reason) h = tt

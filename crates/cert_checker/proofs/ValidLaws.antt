@@ -15,9 +15,9 @@ use Rattle.tour_model.specs.Word.{word_length}
 use Rattle.cert_text.specs.declared.cert.Cert.{Cert}
 use Rattle.cert_text.specs.declared.cert.CertLabel.{CertLabel}
 use Rattle.cert_text.specs.CoverLists.Problem.{Problem, is_better, root_label}
-use Rattle.cert_text.specs.CoverLists.Planning.{problem_of, minute_of, state_at}
+use Rattle.cert_text.specs.CoverLists.Planning.{problem_by, minute_of, state_at}
 use Rattle.cert_text.specs.CoverLists.Cover.{IsCovered, NoneCovers, NoneIsBetter, IsLabelAt, IsPruned}
-use Rattle.cert_text.specs.Cert.{AreLabelsOf, AreLayersOf, IsValidCert}
+use Rattle.cert_text.specs.Cert.{AreLabelsOf, AreLayersOf, IsValidCertBy}
 use Rattle.cert_checker.specs.Parsed.{label_of, labels_of, there}
 use Rattle.cert_checker.specs.Conditions.{Passes, PassUpTo, IsAnsweredFor, IsLongEnough, layer_of, LayersPass}
 use Rattle.cert_checker.specs.Verdicts.{RootsHold, ClaimHolds}
@@ -128,32 +128,32 @@ layer_passes problem is_state state_of tour target css h step i lt =
       | inr past ↦ absurd (let e : length (layer_at css step) ≡ 0 = ap length (get_or_past css step [] past) in omega arith)
     ]
 
-pub valid_from : {S : Type 0} (tour : Tour) (log : List Activity) (m : Machine S) (cert : Cert) →
-    ClaimHolds tour log cert → RootsHold tour log m cert → LayersPass (problem_of tour m) (state_at tour m) m.state_of tour cert.target cert.layers (length cert.layers) → IsValidCert tour log m cert
+pub valid_from : {S : Type 0} (tour : Tour) (log : List Activity) (m : Machine S) (bound : ℕ → ℕ → S → Option ℕ) (cert : Cert) →
+    ClaimHolds tour log cert → RootsHold tour log m cert → LayersPass (problem_by tour m bound) (state_at tour m) m.state_of tour cert.target cert.layers (length cert.layers) → IsValidCertBy tour log m bound cert
 unfolding read_from
-valid_from {S} tour log m cert claim roots h =
+valid_from {S} tour log m bound cert claim roots h =
     let css = cert.layers in
     let os = λ (step : ℕ). layer_of m.state_of tour (word_length tour) css step in
     let layers = read_from m.state_of tour (word_length tour) 0 css in
     let at : (step : ℕ) → layer_at layers step ≡ there (os step) = λ step. read_at m.state_of tour (word_length tour) 0 step step css (omega arith) in
-    let pass = layer_passes (problem_of tour m) (state_at tour m) m.state_of tour cert.target css h in
-    let kept : (step i : ℕ) (l : Label S) → get_or (os step) i None ≡ Some l → Kept (problem_of tour m) (state_at tour m) cert.target step (there (take i (os step))) (there (os (step + 1))) l =
-    λ step i l e. kept_at (problem_of tour m) (state_at tour m) cert.target step (os step) (there (os (step + 1))) i l (pass step) (within_get (os step) i l e) e in
+    let pass = layer_passes (problem_by tour m bound) (state_at tour m) m.state_of tour cert.target css h in
+    let kept : (step i : ℕ) (l : Label S) → get_or (os step) i None ≡ Some l → Kept (problem_by tour m bound) (state_at tour m) cert.target step (there (take i (os step))) (there (os (step + 1))) l =
+    λ step i l e. kept_at (problem_by tour m bound) (state_at tour m) cert.target step (os step) (there (os (step + 1))) i l (pass step) (within_get (os step) i l e) e in
     record {
       claim = claim;
       layers = layers;
       listed = some_layers m.state_of tour (word_length tour) 0 css (λ k lt. some_labels m.state_of (word_length tour) (minute_of tour (0 + k)) (layer_at css k) (λ i less.
           (let e : 0 + k ≡ k = omega arith in
           let p = h k lt i less in
-          let q = passed (problem_of tour m) (state_at tour m) cert.target k (there (take i (os k))) (there (os (k + 1))) (get_or (os k) i None) p in
+          let q = passed (problem_by tour m bound) (state_at tour m) cert.target k (there (take i (os k))) (there (os (k + 1))) (get_or (os k) i None) p in
           (q.0, subst (λ n. get_or (labels_of m.state_of (word_length tour) (minute_of tour n) (layer_at css k)) i None ≡ Some q.0) (sym e) q.1))));
       covers = record {
-        started = λ s o. subst (λ ls. IsCovered (problem_of tour m) 0 ls (root_label s)) (sym (at 0)) (roots s o);
+        started = λ s o. subst (λ ls. IsCovered (problem_by tour m bound) 0 ls (root_label s)) (sym (at 0)) (roots s o);
         labels = λ step l o. (let q = there_index (os step) l (subst (λ ls. IsOneOf ls l) (at step) o) in (kept step q.0 l q.2).stands);
         finished = λ step l o e. (let q = there_index (os step) l (subst (λ ls. IsOneOf ls l) (at step) o) in (kept step q.0 l q.2).long e);
-        better = λ step. subst (λ ls. NoneIsBetter (problem_of tour m) step ls) (sym (at step)) (fresh_none (problem_of tour m) step (os step) (λ i l e. (kept step i l e).fresh));
+        better = λ step. subst (λ ls. NoneIsBetter (problem_by tour m bound) step ls) (sym (at step)) (fresh_none (problem_by tour m bound) step (os step) (λ i l e. (kept step i l e).fresh));
         answered = λ step l o less g i. (let q = there_index (os step) l (subst (λ ls. IsOneOf ls l) (at step) o) in
-            subst (λ ls. IsPruned (problem_of tour m) cert.target (step + 1) g.label ⊎ IsCovered (problem_of tour m) (step + 1) ls g.label) (sym (at (step + 1))) ((kept step q.0 l q.2).answered less g i));
+            subst (λ ls. IsPruned (problem_by tour m bound) cert.target (step + 1) g.label ⊎ IsCovered (problem_by tour m bound) (step + 1) ls g.label) (sym (at (step + 1))) ((kept step q.0 l q.2).answered less g i));
       };
     }
 
@@ -188,33 +188,33 @@ record IsListed {S : Type 0} (state_of : List ℕ → ℕ → Option S) (tour : 
   are : layer_of state_of tour goal css step ≡ map (λ l. Some l) (layer_at layers step)
   there_are : there (layer_of state_of tour goal css step) ≡ layer_at layers step
 
-listed_at : {S : Type 0} (tour : Tour) (log : List Activity) (m : Machine S) (cert : Cert) (v : IsValidCert tour log m cert) (step : ℕ) →
+listed_at : {S : Type 0} (tour : Tour) (log : List Activity) (m : Machine S) (bound : ℕ → ℕ → S → Option ℕ) (cert : Cert) (v : IsValidCertBy tour log m bound cert) (step : ℕ) →
     IsListed m.state_of tour (word_length tour) cert.layers v.layers step
-listed_at tour log m cert v step =
+listed_at tour log m bound cert v step =
     let are = labels_back m.state_of (word_length tour) (minute_of tour step) (layer_at cert.layers step) (layer_at v.layers step) (layers_back m.state_of tour 0 step step cert.layers v.layers (omega arith) v.listed) (λ l o. (v.covers.labels step l o).progress) in
     record { are = are; there_are = ap there are ∙ there_some (layer_at v.layers step) }
 
-pub valid_roots : {S : Type 0} (tour : Tour) (log : List Activity) (m : Machine S) (cert : Cert) → IsValidCert tour log m cert →
+pub valid_roots : {S : Type 0} (tour : Tour) (log : List Activity) (m : Machine S) (bound : ℕ → ℕ → S → Option ℕ) (cert : Cert) → IsValidCertBy tour log m bound cert →
     RootsHold tour log m cert
-valid_roots tour log m cert v s o =
-    subst (λ ls. IsCovered (problem_of tour m) 0 ls (root_label s)) (sym (listed_at tour log m cert v 0).there_are) (v.covers.started s o)
+valid_roots tour log m bound cert v s o =
+    subst (λ ls. IsCovered (problem_by tour m bound) 0 ls (root_label s)) (sym (listed_at tour log m bound cert v 0).there_are) (v.covers.started s o)
 
 -- each label of a valid certificate passes
-pub valid_passes : {S : Type 0} (tour : Tour) (log : List Activity) (m : Machine S) (cert : Cert) → IsValidCert tour log m cert →
+pub valid_passes : {S : Type 0} (tour : Tour) (log : List Activity) (m : Machine S) (bound : ℕ → ℕ → S → Option ℕ) (cert : Cert) → IsValidCertBy tour log m bound cert →
     (step i : ℕ) → i < length (layer_of m.state_of tour (word_length tour) cert.layers step) →
-    Passes (problem_of tour m) (state_at tour m) cert.target step (there (take i (layer_of m.state_of tour (word_length tour) cert.layers step))) (there (layer_of m.state_of tour (word_length tour) cert.layers (step + 1))) (get_or (layer_of m.state_of tour (word_length tour) cert.layers step) i None)
-valid_passes tour log m cert v step i lt =
+    Passes (problem_by tour m bound) (state_at tour m) cert.target step (there (take i (layer_of m.state_of tour (word_length tour) cert.layers step))) (there (layer_of m.state_of tour (word_length tour) cert.layers (step + 1))) (get_or (layer_of m.state_of tour (word_length tour) cert.layers step) i None)
+valid_passes tour log m bound cert v step i lt =
     let os = layer_of m.state_of tour (word_length tour) cert.layers step in
     let ls = layer_at v.layers step in
-    let here = listed_at tour log m cert v step in
-    let ahead = listed_at tour log m cert v (step + 1) in
+    let here = listed_at tour log m bound cert v step in
+    let ahead = listed_at tour log m bound cert v (step + 1) in
     let n : length os ≡ length ls = ap length here.are ∙ length-map ls (λ l. Some l) in
     let q = get_some ls i (omega arith) in
     let e : get_or os i None ≡ Some q.0 = ap (λ ys. get_or ys i None) here.are ∙ q.1 in
     let o : IsOneOf ls q.0 = subst (λ ys. IsOneOf ys q.0) here.there_are (there_get os i q.0 e) in
-    subst (λ p. Passes (problem_of tour m) (state_at tour m) cert.target step (there (take i os)) (there (layer_of m.state_of tour (word_length tour) cert.layers (step + 1))) p) (sym e) (
+    subst (λ p. Passes (problem_by tour m bound) (state_at tour m) cert.target step (there (take i os)) (there (layer_of m.state_of tour (word_length tour) cert.layers (step + 1))) p) (sym e) (
       v.covers.labels step q.0 o,
       v.covers.finished step q.0 o,
-      none_fresh (problem_of tour m) step os i q.0 (subst (λ ys. NoneIsBetter (problem_of tour m) step ys) (sym here.there_are) (v.covers.better step)) e,
-      (λ less g k. subst (λ ys. IsPruned (problem_of tour m) cert.target (step + 1) g.label ⊎ IsCovered (problem_of tour m) (step + 1) ys g.label) (sym ahead.there_are) (v.covers.answered step q.0 o less g k)),
+      none_fresh (problem_by tour m bound) step os i q.0 (subst (λ ys. NoneIsBetter (problem_by tour m bound) step ys) (sym here.there_are) (v.covers.better step)) e,
+      (λ less g k. subst (λ ys. IsPruned (problem_by tour m bound) cert.target (step + 1) g.label ⊎ IsCovered (problem_by tour m bound) (step + 1) ys g.label) (sym ahead.there_are) (v.covers.answered step q.0 o less g k)),
     )

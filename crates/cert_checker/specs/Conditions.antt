@@ -1,6 +1,5 @@
 -- The conditions on the labels of a certificate, in their order.
 use Rattle.std.specs.Prelude.{◌≡◌, ℕ, ◌+◌, ◌<◌, List, Option, None, Some, ◌⊎◌, take, length, slice_index_or, sum_by}
-use Rattle.rule_core.specs.declared.nexts.Next.{Next}
 use Rattle.rule_core.specs.Reach.{IsOneOf}
 use Rattle.tour_model.specs.declared.label.Label.{Label}
 use Rattle.tour_model.specs.declared.tour.Tour.{Tour}
@@ -16,13 +15,13 @@ use Rattle.cert_checker.specs.declared.layer.LabelFault.{LabelFault}
 use Rattle.cert_checker.specs.declared.verdict.Rejection.{Rejection}
 use Rattle.cert_checker.specs.Parsed.{labels_of, there}
 
--- For each of these states, a label of the layer is better than one of this departure and progress in it.
-abbrev pub AreCovered : {S : Type 0} → Problem S → ℕ → List (Label S) → Option ℕ → ℕ → List (Next S) → Type 0
-AreCovered {S} problem step layer depart progress ns = (n : Next S) → IsOneOf ns n → IsCovered problem step layer (record { depart = depart; progress = progress; state = n.state })
+-- A label of this step is pruned, or a label of the layer is better.
+abbrev pub IsPrunedOrCovered : {S : Type 0} → Problem S → Option ℕ → ℕ → List (Label S) → Label S → Type 0
+IsPrunedOrCovered problem target step layer l = IsPruned problem target step l ⊎ IsCovered problem step layer l
 
 -- Each of these successors, labels of this step, is pruned, or a label of the layer is better.
 abbrev pub AreAnswered : {S : Type 0} → Problem S → Option ℕ → ℕ → List (Label S) → List (Grown S) → Type 0
-AreAnswered {S} problem target step layer gs = (g : Grown S) → IsOneOf gs g → IsPruned problem target step g.label ⊎ IsCovered problem step layer g.label
+AreAnswered {S} problem target step layer gs = (g : Grown S) → IsOneOf gs g → IsPrunedOrCovered problem target step layer g.label
 
 -- A finished label has not taken less than the target.
 abbrev pub IsLongEnough : {S : Type 0} → Problem S → Option ℕ → ℕ → Label S → Type 0

@@ -2,6 +2,7 @@ pub mod Parsed
 pub mod Terms
 pub mod Places
 pub mod Conditions
+pub mod Made
 pub mod Followed
 pub mod Rooted
 pub mod Verdicts

@@ -13,9 +13,9 @@ use Rattle.cert_text.specs.declared.cert.Cert.{Cert}
 use Rattle.cert_text.specs.declared.cert.CertKind.TheVariants.{Shortest, Infeasible}
 use Rattle.cert_text.specs.declared.cert.CertLabel.{CertLabel}
 use Rattle.cert_text.specs.CoverLists.Problem.{Problem, root_label}
-use Rattle.cert_text.specs.CoverLists.Planning.{problem_of, state_at, IsLogState}
+use Rattle.cert_text.specs.CoverLists.Planning.{problem_by, problem_of, eta_bound, state_at, IsLogState}
 use Rattle.cert_text.specs.CoverLists.Cover.{IsCovered}
-use Rattle.cert_text.specs.Cert.{acts_of_runs, IsClaim, IsValidCert}
+use Rattle.cert_text.specs.Cert.{acts_of_runs, IsClaim, IsValidCertBy}
 use Rattle.cert_checker.specs.declared.verdict.Reason.{Reason}
 use Rattle.cert_checker.specs.declared.verdict.Reason.TheVariants as reason
 use Rattle.cert_checker.specs.declared.verdict.Rejection.{Rejection}
@@ -87,17 +87,25 @@ abbrev pub RootsHold : {S : Type 0} → Tour → List Activity → Machine S →
 RootsHold tour log m cert = IsStarted (problem_of tour m) (IsLogState tour log m) (there (layer_of m.state_of tour (word_length tour) cert.layers 0))
 
 -- This is the first condition that fails, in the order of the lines, and on one line in that of the reasons: of the claim, of the roots, of a label.
-abbrev pub IsFirstFailure : {S : Type 0} → Tour → List Activity → Machine S → Cert → Rejection → Type 0
-IsFirstFailure tour log m cert r =
+abbrev pub IsFirstFailureBy : {S : Type 0} → Tour → List Activity → Machine S → (ℕ → ℕ → S → Option ℕ) → Cert → Rejection → Type 0
+IsFirstFailureBy tour log m bound cert r =
     ClaimFails tour log cert r
     ⊎ (ClaimHolds tour log cert × ((r.reason ≡ reason.Root) × (r.line ≡ root_line cert cert.layers) × (RootsHold tour log m cert → ⊥)
-    ⊎ (RootsHold tour log m cert × IsFirstLabel (problem_of tour m) (state_at tour m) m.state_of tour cert.target cert.layers (first_line cert) r)))
+    ⊎ (RootsHold tour log m cert × IsFirstLabel (problem_by tour m bound) (state_at tour m) m.state_of tour cert.target cert.layers (first_line cert) r)))
 
--- What a verdict says of a certificate, by a book.
+-- The same by the earliest end with no rules.
+abbrev pub IsFirstFailure : {S : Type 0} → Tour → List Activity → Machine S → Cert → Rejection → Type 0
+IsFirstFailure tour log m cert r = IsFirstFailureBy tour log m (eta_bound tour) cert r
+
+-- What a verdict says of a certificate, by a book and a bound on labels.
+abbrev pub IsVerdictBy : {S : Type 0} → Tour → List Activity → Machine S → (ℕ → ℕ → S → Option ℕ) → Cert → Verdict → Type 0
+IsVerdictBy tour log m bound cert (verdict.Shortest steps) = IsValidCertBy tour log m bound cert × (cert.kind ≡ Shortest) × (cert.target ≡ Some steps)
+IsVerdictBy tour log m bound cert verdict.Infeasible = IsValidCertBy tour log m bound cert × (cert.kind ≡ Infeasible)
+IsVerdictBy tour log m bound cert (verdict.Rejected line reason) = (IsValidCertBy tour log m bound cert → ⊥) × IsFirstFailureBy tour log m bound cert (record { line = line; reason = reason })
+
+-- The same by the earliest end with no rules.
 abbrev pub IsVerdict : {S : Type 0} → Tour → List Activity → Machine S → Cert → Verdict → Type 0
-IsVerdict tour log m cert (verdict.Shortest steps) = IsValidCert tour log m cert × (cert.kind ≡ Shortest) × (cert.target ≡ Some steps)
-IsVerdict tour log m cert verdict.Infeasible = IsValidCert tour log m cert × (cert.kind ≡ Infeasible)
-IsVerdict tour log m cert (verdict.Rejected line reason) = (IsValidCert tour log m cert → ⊥) × IsFirstFailure tour log m cert (record { line = line; reason = reason })
+IsVerdict tour log m cert v = IsVerdictBy tour log m (eta_bound tour) cert v
 
 -- The certificate's own schedule is a solution with its own marks, than which none is shorter, and it takes so many steps.
 pub record IsOwnShortest (tour : Tour) (log : List Activity) (cert : Cert) (steps : ℕ) : Type 0 where

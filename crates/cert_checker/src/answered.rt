@@ -8,16 +8,18 @@ ghost use Rattle.tour_model.specs.Tour.{IsTour};
 ghost use Rattle.tour_model.specs.Way.{done};
 ghost use Rattle.tour_model.specs.Word.{word_length};
 ghost use Rattle.cert_text.specs.CoverLists.Problem.{departed, grown_by, successors_of};
-ghost use Rattle.cert_text.specs.CoverLists.Planning.{problem_of, state_at};
+ghost use Rattle.cert_text.specs.CoverLists.Planning.{problem_by, state_at};
+ghost use Rattle.cert_text.specs.CoverLists.Bound.{IsBoundOf};
 ghost use Rattle.cert_checker.specs.Parsed.{there};
 ghost use Rattle.cert_checker.specs.Terms.{AreStatesAt, HasNext};
-ghost use Rattle.cert_checker.specs.Conditions.{AreAnswered, AreCovered};
+ghost use Rattle.cert_checker.specs.Conditions.{AreAnswered, IsPrunedOrCovered};
+ghost use Rattle.cert_checker.specs.Made.{IsMade, made_label, AreStatesAnswered};
 
 use crate::asked::Asked;
 use crate::covered::is_covered;
 use crate::listing::Listing;
 use crate::terms::Terms;
-use cert_text::{is_pruned, minute_at};
+use cert_text::{LabelBound, is_pruned, minute_at};
 use duty_core::{Activity, NoMemory, unit_of};
 use rule_core::{Idles, Next, Nexts, RuleBook};
 use tour_model::{Label, progresses};
@@ -45,97 +47,135 @@ pub fn progress_after(progress: u32, act: Activity) -> u32
     }
 }
 
-/// Whether one of the labels is better than one of this departure and progress in the state, where
-/// there is one.
-fn is_next_covered<B: RuleBook>(
-    terms: &Terms<'_, B>,
-    step: u32,
-    labels: &Listing<B::State>,
+/// What a step makes of a label, but for the state: its departure, its progress, and what the bound
+/// tells of these alone.
+#[derive(Clone, Copy)]
+struct Made {
     depart: Option<u32>,
     progress: u32,
+    early: Option<u32>,
+}
+
+/// Whether one that is made so is pruned in the state, or one of the labels is better.
+fn is_state_answered<B: RuleBook, K: LabelBound<B::State>>(
+    terms: &Terms<'_, B, K>,
+    step: u32,
+    labels: &Listing<B::State>,
+    made: Made,
+    state: &B::State,
+) -> bool
+    requires tour { IsTour terms.now.tour.now }
+    requires bound { IsBoundOf terms.now.tour.now (B.machine terms.now.book.now) (K.bounds terms.now.bound.now) }
+    requires made { IsMade terms.now.tour.now (K.bounds terms.now.bound.now).early step made }
+    requires labels { AreStatesAt terms.now (B.machine terms.now.book.now) step labels.now }
+    requires state { state_at terms.now.tour.now (B.machine terms.now.book.now) state.now step }
+    requires step { step < STEP_LIMIT }
+    ensures { Decides result (IsPrunedOrCovered (problem_by terms.now.tour.now (B.machine terms.now.book.now) (K.bounds terms.now.bound.now).bound) terms.now.target step (there labels.now) (made_label made state.now)) }
+{
+    let bound = terms.bound.bound(step, made.progress, state, made.early);
+    if is_pruned(terms.target, made.depart, bound) {
+        return true;
+    }
+    let asked = Asked {
+        depart: made.depart,
+        progress: made.progress,
+        state,
+    };
+    is_covered(terms, step, labels, &asked)
+}
+
+/// The same of the state that is there, if any.
+fn is_next_answered<B: RuleBook, K: LabelBound<B::State>>(
+    terms: &Terms<'_, B, K>,
+    step: u32,
+    labels: &Listing<B::State>,
+    made: Made,
     next: &Option<Next<B::State>>,
 ) -> bool
     requires tour { IsTour terms.now.tour.now }
+    requires bound { IsBoundOf terms.now.tour.now (B.machine terms.now.book.now) (K.bounds terms.now.bound.now) }
+    requires made { IsMade terms.now.tour.now (K.bounds terms.now.bound.now).early step made }
     requires labels { AreStatesAt terms.now (B.machine terms.now.book.now) step labels.now }
     requires state { (n : Next B.State) → IsOneOf (option_to_list next.now) n → state_at terms.now.tour.now (B.machine terms.now.book.now) n.state step }
     requires step { step < STEP_LIMIT }
-    ensures { Decides result (AreCovered (problem_of terms.now.tour.now (B.machine terms.now.book.now)) step (there labels.now) depart progress (option_to_list next.now)) }
+    ensures { Decides result (AreStatesAnswered (problem_by terms.now.tour.now (B.machine terms.now.book.now) (K.bounds terms.now.bound.now).bound) terms.now.target step (there labels.now) made (option_to_list next.now)) }
 {
     match next {
         None => true,
-        Some(next) => {
-            let asked = Asked {
-                depart,
-                progress,
-                state: &next.state,
-            };
-            is_covered(terms, step, labels, &asked)
-        }
+        Some(next) => is_state_answered(terms, step, labels, made, &next.state),
     }
 }
 
-/// Whether for each of the states, one of the labels is better than one of this departure and
-/// progress in it.
-fn are_nexts_covered<B: RuleBook>(
-    terms: &Terms<'_, B>,
+/// The same of each of the states.
+fn are_nexts_answered<B: RuleBook, K: LabelBound<B::State>>(
+    terms: &Terms<'_, B, K>,
     step: u32,
     labels: &Listing<B::State>,
-    depart: Option<u32>,
-    progress: u32,
+    made: Made,
     nexts: &Nexts<B::State>,
 ) -> bool
     requires tour { IsTour terms.now.tour.now }
+    requires bound { IsBoundOf terms.now.tour.now (B.machine terms.now.book.now) (K.bounds terms.now.bound.now) }
+    requires made { IsMade terms.now.tour.now (K.bounds terms.now.bound.now).early step made }
     requires labels { AreStatesAt terms.now (B.machine terms.now.book.now) step labels.now }
     requires states { (n : Next B.State) → IsOneOf (listed nexts.now) n → state_at terms.now.tour.now (B.machine terms.now.book.now) n.state step }
     requires step { step < STEP_LIMIT }
-    ensures { Decides result (AreCovered (problem_of terms.now.tour.now (B.machine terms.now.book.now)) step (there labels.now) depart progress (listed nexts.now)) }
+    ensures { Decides result (AreStatesAnswered (problem_by terms.now.tour.now (B.machine terms.now.book.now) (K.bounds terms.now.bound.now).bound) terms.now.target step (there labels.now) made (listed nexts.now)) }
 {
-    if !is_next_covered(terms, step, labels, depart, progress, &nexts.a) {
+    if !is_next_answered(terms, step, labels, made, &nexts.a) {
         return false;
     }
-    if !is_next_covered(terms, step, labels, depart, progress, &nexts.b) {
+    if !is_next_answered(terms, step, labels, made, &nexts.b) {
         return false;
     }
-    is_next_covered(terms, step, labels, depart, progress, &nexts.c)
+    is_next_answered(terms, step, labels, made, &nexts.c)
 }
 
 /// Whether the label's successors by the activity are answered: there is none where the tour does
-/// not allow it. All of them are pruned, or none is.
-fn are_answered_by<B: RuleBook>(
-    terms: &Terms<'_, B>,
+/// not allow it. None is made where what the bound tells early prunes all of them.
+fn are_answered_by<B: RuleBook, K: LabelBound<B::State>>(
+    terms: &Terms<'_, B, K>,
     step: u32,
     labels: &Listing<B::State>,
     label: &Label<B::State>,
     act: Activity,
 ) -> Result<bool, NoMemory>
+    requires bound { IsBoundOf terms.now.tour.now (B.machine terms.now.book.now) (K.bounds terms.now.bound.now) }
     requires next { HasNext terms.now (B.machine terms.now.book.now) step label.now labels.now }
     requires progress { label.now.progress < terms.now.goal }
-    ensures { IfOk result (λ b. Decides b (AreAnswered (problem_of terms.now.tour.now (B.machine terms.now.book.now)) terms.now.target (step + 1) (there labels.now) (grown_by (problem_of terms.now.tour.now (B.machine terms.now.book.now)) step label.now act))) }
+    ensures { IfOk result (λ b. Decides b (AreAnswered (problem_by terms.now.tour.now (B.machine terms.now.book.now) (K.bounds terms.now.bound.now).bound) terms.now.target (step + 1) (there labels.now) (grown_by (problem_by terms.now.tour.now (B.machine terms.now.book.now) (K.bounds terms.now.bound.now).bound) step label.now act))) }
 {
     if !terms.tour.may_do(step, label.progress, act) {
         return Ok(true);
     }
     let depart = departure(label.depart, act, step);
     let progress = progress_after(label.progress, act);
-    if is_pruned(terms.target, depart, terms.tour.eta(step + 1, progress)) {
+    let early = terms.bound.early(step + 1, progress);
+    if is_pruned(terms.target, depart, early) {
         return Ok(true);
     }
     let units = terms.tour.grid / unit_of(terms.tour.params);
     let at = minute_at(terms.tour, step);
     let nexts = terms.book.advance(&label.state, at, act, units)?;
-    Ok(are_nexts_covered(terms, step + 1, labels, depart, progress, &nexts))
+    let made = Made {
+        depart,
+        progress,
+        early,
+    };
+    Ok(are_nexts_answered(terms, step + 1, labels, made, &nexts))
 }
 
 /// Whether each successor of the label is pruned, or one of the labels of the next step is better.
-pub fn are_answered<B: RuleBook>(
-    terms: &Terms<'_, B>,
+pub fn are_answered<B: RuleBook, K: LabelBound<B::State>>(
+    terms: &Terms<'_, B, K>,
     step: u32,
     labels: &Listing<B::State>,
     label: &Label<B::State>,
 ) -> Result<bool, NoMemory>
+    requires bound { IsBoundOf terms.now.tour.now (B.machine terms.now.book.now) (K.bounds terms.now.bound.now) }
     requires next { HasNext terms.now (B.machine terms.now.book.now) step label.now labels.now }
     requires progress { label.now.progress < terms.now.goal }
-    ensures { IfOk result (λ b. Decides b (AreAnswered (problem_of terms.now.tour.now (B.machine terms.now.book.now)) terms.now.target (step + 1) (there labels.now) (successors_of (problem_of terms.now.tour.now (B.machine terms.now.book.now)) step label.now))) }
+    ensures { IfOk result (λ b. Decides b (AreAnswered (problem_by terms.now.tour.now (B.machine terms.now.book.now) (K.bounds terms.now.bound.now).bound) terms.now.target (step + 1) (there labels.now) (successors_of (problem_by terms.now.tour.now (B.machine terms.now.book.now) (K.bounds terms.now.bound.now).bound) step label.now))) }
 {
     let Idles { first, second } = terms.book.idles(&label.state);
     if !are_answered_by(terms, step, labels, label, Activity::Drive)? {

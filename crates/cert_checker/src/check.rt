@@ -7,11 +7,12 @@ ghost use Rattle.tour_model.specs.Schedule.{log_start};
 ghost use Rattle.tour_model.specs.Tour.{IsTour};
 ghost use Rattle.tour_model.specs.Word.{word_length};
 ghost use Rattle.cert_text.specs.CoverLists.Planning.{problem_of, minute_of};
+ghost use Rattle.cert_text.specs.CoverLists.Bound.{ObeysBound, IsBoundOf};
 ghost use Rattle.cert_checker.specs.Parsed.{there};
 ghost use Rattle.cert_checker.specs.Terms.{AreTerms};
 ghost use Rattle.cert_checker.specs.Conditions.{layer_of};
 ghost use Rattle.cert_checker.specs.Rooted.{AreRooted};
-ghost use Rattle.cert_checker.specs.Verdicts.{IsSmallCert, IsVerdict, Proves, verdict_of, claim_line, layers_line, root_line};
+ghost use Rattle.cert_checker.specs.Verdicts.{IsSmallCert, IsVerdictBy, IsVerdict, Proves, verdict_of, claim_line, layers_line, root_line};
 
 use crate::claim::fault_of_claim;
 use crate::layers::first_label;
@@ -19,7 +20,7 @@ use crate::parse::read_layer;
 use crate::roots::are_rooted;
 use crate::terms::Terms;
 use crate::verdict::{Reason, Rejection, SCHEDULE_LINE, Verdict};
-use cert_text::Cert;
+use cert_text::{Cert, EtaBound, LabelBound};
 use duty_core::NoMemory;
 use rule_core::{Roots, RuleBook};
 use std::alloc::Global;
@@ -60,9 +61,9 @@ fn root_line(cert: &Cert) -> u64
 
 /// Whether each state that the log reaches is covered by a label of layer 0 that has not departed
 /// and has done nothing.
-fn do_roots_hold<B: RuleBook>(
+fn do_roots_hold<B: RuleBook, K>(
     alloc: Global,
-    terms: &Terms<'_, B>,
+    terms: &Terms<'_, B, K>,
     roots: &Roots<B::State>,
     cert: &Cert,
 ) -> Result<bool, NoMemory>
@@ -83,6 +84,43 @@ fn accepted(cert: &Cert) -> Verdict
         None => Verdict::Infeasible,
         Some(steps) => Verdict::Shortest { steps },
     }
+}
+
+/// Checks a certificate by these terms, after a log that leaves these roots.
+pub fn check_by_terms<B: RuleBook, K: LabelBound<B::State>>(
+    alloc: Global,
+    terms: &Terms<'_, B, K>,
+    log: &Timeline,
+    roots: &Roots<B::State>,
+    cert: &Cert,
+) -> Result<Verdict, NoMemory>
+    requires terms { AreTerms terms.now (B.machine terms.now.book.now) }
+    requires bound { IsBoundOf terms.now.tour.now (B.machine terms.now.book.now) (K.bounds terms.now.bound.now) }
+    requires obeys { ObeysBound terms.now.tour.now (B.machine terms.now.book.now) (K.bounds terms.now.bound.now).bound }
+    requires target { terms.now.target ≡ cert.now.target }
+    requires short { unit_minutes terms.now.tour.now.params * length log.now ≤ LONGEST_LOG }
+    requires roots { AreRootsOf (unit_minutes terms.now.tour.now.params) (B.machine terms.now.book.now) (log_start terms.now.tour.now log.now) log.now roots.now }
+    requires cert { IsSmallCert cert.now }
+    ensures verdict { IfOk result (IsVerdictBy terms.now.tour.now log.now (B.machine terms.now.book.now) (K.bounds terms.now.bound.now).bound cert.now) }
+    ensures proves { IfOk result (Proves terms.now.tour.now log.now cert.now) }
+{
+    if let Some(reason) = fault_of_claim(alloc, terms.book, terms.tour, log, cert)? {
+        let line = claim_line(cert, reason);
+        return Ok(Verdict::Rejected { line, reason });
+    }
+    if !do_roots_hold(alloc, terms, roots, cert)? {
+        let line = root_line(cert);
+        return Ok(Verdict::Rejected {
+            line,
+            reason: Reason::Root,
+        });
+    }
+    let first = layers_line(cert) + 1;
+    if let Some(failure) = first_label(alloc, terms, first, &cert.layers)? {
+        let Rejection { line, reason } = failure;
+        return Ok(Verdict::Rejected { line, reason });
+    }
+    Ok(accepted(cert))
 }
 
 /// Checks a certificate of the tour after the log, which leaves these roots.
@@ -106,27 +144,13 @@ pub fn check_parsed<B: RuleBook>(
     ensures verdict { IfOk result (IsVerdict tour.now log.now (B.machine book.now) cert.now) }
     ensures proves { IfOk result (Proves tour.now log.now cert.now) }
 {
-    if let Some(reason) = fault_of_claim(alloc, book, tour, log, cert)? {
-        let line = claim_line(cert, reason);
-        return Ok(Verdict::Rejected { line, reason });
-    }
+    let bound = EtaBound { tour };
     let terms = Terms {
         book,
         tour,
+        bound: &bound,
         goal: tour.word_len(),
         target: cert.target,
     };
-    if !do_roots_hold(alloc, &terms, roots, cert)? {
-        let line = root_line(cert);
-        return Ok(Verdict::Rejected {
-            line,
-            reason: Reason::Root,
-        });
-    }
-    let first = layers_line(cert) + 1;
-    if let Some(failure) = first_label(alloc, &terms, first, &cert.layers)? {
-        let Rejection { line, reason } = failure;
-        return Ok(Verdict::Rejected { line, reason });
-    }
-    Ok(accepted(cert))
+    check_by_terms(alloc, &terms, log, roots, cert)
 }

@@ -17,8 +17,8 @@ use rule_core::RuleBook;
 use tour_model::Label;
 
 /// Whether the label has done as much as the one asked about, or can rest until that has.
-fn keeps_up<B: RuleBook>(
-    terms: &Terms<'_, B>,
+fn keeps_up<B: RuleBook, K>(
+    terms: &Terms<'_, B, K>,
     label: &Label<B::State>,
     asked: &Asked<'_, B::State>,
 ) -> bool
@@ -32,8 +32,8 @@ fn keeps_up<B: RuleBook>(
 }
 
 /// Whether the label is better than the one asked about.
-fn is_better<B: RuleBook>(
-    terms: &Terms<'_, B>,
+fn is_better<B: RuleBook, K>(
+    terms: &Terms<'_, B, K>,
     step: u32,
     label: &Label<B::State>,
     asked: &Asked<'_, B::State>,
@@ -52,8 +52,8 @@ fn is_better<B: RuleBook>(
 }
 
 /// Whether the label at this place is there, and is better than the one asked about.
-fn is_better_at<B: RuleBook>(
-    terms: &Terms<'_, B>,
+fn is_better_at<B: RuleBook, K>(
+    terms: &Terms<'_, B, K>,
     step: u32,
     labels: &[Option<Label<B::State>>],
     place: usize,
@@ -72,8 +72,8 @@ fn is_better_at<B: RuleBook>(
 }
 
 /// Whether one of the labels at these places is better than the one asked about.
-fn is_any_better<B: RuleBook>(
-    terms: &Terms<'_, B>,
+fn is_any_better<B: RuleBook, K>(
+    terms: &Terms<'_, B, K>,
     step: u32,
     labels: &[Option<Label<B::State>>],
     places: &[usize],
@@ -92,8 +92,8 @@ fn is_any_better<B: RuleBook>(
 
 /// Whether one of the first `count` labels of the layer is better than the one asked about. Those
 /// that have done as much are looked at, and those that have done more.
-pub fn is_covered_before<B: RuleBook>(
-    terms: &Terms<'_, B>,
+pub fn is_covered_before<B: RuleBook, K>(
+    terms: &Terms<'_, B, K>,
     step: u32,
     labels: &Listing<B::State>,
     count: usize,
@@ -120,8 +120,8 @@ pub fn is_covered_before<B: RuleBook>(
 }
 
 /// Whether some label of the layer is better than the one asked about.
-pub fn is_covered<B: RuleBook>(
-    terms: &Terms<'_, B>,
+pub fn is_covered<B: RuleBook, K>(
+    terms: &Terms<'_, B, K>,
     step: u32,
     labels: &Listing<B::State>,
     asked: &Asked<'_, B::State>,

@@ -1,6 +1,7 @@
 //! The conditions on one label.
 ghost use Rattle.std.specs.Prelude.{◌≡◌, ◌-◌, ◌≤◌, length, take, Some, unwrap_or, Decides, IfOk, MatchOption};
-ghost use Rattle.cert_text.specs.CoverLists.Planning.{problem_of, state_at};
+ghost use Rattle.cert_text.specs.CoverLists.Planning.{problem_by, state_at};
+ghost use Rattle.cert_text.specs.CoverLists.Bound.{IsBoundOf};
 ghost use Rattle.cert_text.specs.CoverLists.Cover.{IsAtLeast};
 ghost use Rattle.cert_checker.specs.Parsed.{there, HasLeft};
 ghost use Rattle.cert_checker.specs.Terms.{AreStatesAt, HasNext};
@@ -12,6 +13,7 @@ use crate::covered::is_covered_before;
 use crate::listing::Listing;
 use crate::terms::Terms;
 use crate::verdict::Reason;
+use cert_text::LabelBound;
 use duty_core::NoMemory;
 use rule_core::RuleBook;
 use tour_model::Label;
@@ -54,14 +56,15 @@ fn is_long_enough(
 }
 
 /// Whether the successors of the label are answered, where it is not finished.
-fn is_answered_for<B: RuleBook>(
-    terms: &Terms<'_, B>,
+fn is_answered_for<B: RuleBook, K: LabelBound<B::State>>(
+    terms: &Terms<'_, B, K>,
     step: u32,
     label: &Label<B::State>,
     next: &Listing<B::State>,
 ) -> Result<bool, NoMemory>
-    requires { HasNext terms.now (B.machine terms.now.book.now) step label.now next.now }
-    ensures { IfOk result (λ b. Decides b (IsAnsweredFor (problem_of terms.now.tour.now (B.machine terms.now.book.now)) terms.now.target step (there next.now) label.now)) }
+    requires bound { IsBoundOf terms.now.tour.now (B.machine terms.now.book.now) (K.bounds terms.now.bound.now) }
+    requires next { HasNext terms.now (B.machine terms.now.book.now) step label.now next.now }
+    ensures { IfOk result (λ b. Decides b (IsAnsweredFor (problem_by terms.now.tour.now (B.machine terms.now.book.now) (K.bounds terms.now.bound.now).bound) terms.now.target step (there next.now) label.now)) }
 {
     if label.progress >= terms.goal {
         return Ok(true);
@@ -71,22 +74,23 @@ fn is_answered_for<B: RuleBook>(
 
 /// The first condition that fails at the label, where one does: after those before this place of
 /// its layer, and before those of the next.
-pub fn fault_of<B: RuleBook>(
-    terms: &Terms<'_, B>,
+pub fn fault_of<B: RuleBook, K: LabelBound<B::State>>(
+    terms: &Terms<'_, B, K>,
     step: u32,
     label: &Label<B::State>,
     labels: &Listing<B::State>,
     place: usize,
     next: &Listing<B::State>,
 ) -> Result<Option<Reason>, NoMemory>
+    requires bound { IsBoundOf terms.now.tour.now (B.machine terms.now.book.now) (K.bounds terms.now.bound.now) }
     requires next { HasNext terms.now (B.machine terms.now.book.now) step label.now next.now }
     requires progress { label.now.progress ≤ terms.now.goal }
     requires labels { AreStatesAt terms.now (B.machine terms.now.book.now) step labels.now }
     requires place { place ≤ length labels.now }
     ensures { IfOk result (λ o. MatchOption o
-        (Passes (problem_of terms.now.tour.now (B.machine terms.now.book.now)) (state_at terms.now.tour.now (B.machine terms.now.book.now)) terms.now.target step
+        (Passes (problem_by terms.now.tour.now (B.machine terms.now.book.now) (K.bounds terms.now.bound.now).bound) (state_at terms.now.tour.now (B.machine terms.now.book.now)) terms.now.target step
         (there (take place labels.now)) (there next.now) (Some label.now))
-        (FailsBy (problem_of terms.now.tour.now (B.machine terms.now.book.now)) (state_at terms.now.tour.now (B.machine terms.now.book.now)) terms.now.target step
+        (FailsBy (problem_by terms.now.tour.now (B.machine terms.now.book.now) (K.bounds terms.now.bound.now).bound) (state_at terms.now.tour.now (B.machine terms.now.book.now)) terms.now.target step
         (there (take place labels.now)) (there next.now) (Some label.now))) }
 {
     if !has_left(step, label.progress, label.depart) {

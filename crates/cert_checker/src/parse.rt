@@ -56,9 +56,9 @@ fn read_labels<B: RuleBook>(
 }
 
 /// The labels of the layer of this step, in their order: none where there is no such layer.
-pub fn read_layer<B: RuleBook>(
+pub fn read_layer<B: RuleBook, K>(
     alloc: Global,
-    terms: &Terms<'_, B>,
+    terms: &Terms<'_, B, K>,
     layers: &[CertLabels],
     step: u32,
 ) -> Result<Listing<B::State>, NoMemory>

@@ -14,8 +14,8 @@ use crate::terms::Terms;
 use rule_core::{Root, RuleBook};
 
 /// Whether each root is covered by one of the labels that has not departed and has done nothing.
-pub fn are_rooted<B: RuleBook>(
-    terms: &Terms<'_, B>,
+pub fn are_rooted<B: RuleBook, K>(
+    terms: &Terms<'_, B, K>,
     labels: &Listing<B::State>,
     roots: &[Root<B::State>],
 ) -> bool

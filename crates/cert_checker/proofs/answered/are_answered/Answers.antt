@@ -4,7 +4,7 @@ use Rattle.duty_core.specs.declared.activity.Activity.{Activity}
 use Rattle.duty_core.specs.declared.activity.Activity.TheVariants.{Drive, Serve}
 use Rattle.rule_core.specs.Reach.{idle_list}
 use Rattle.cert_text.specs.CoverLists.Problem.{grown_by, successors_of}
-use Rattle.cert_text.specs.CoverLists.Planning.{problem_of}
+use Rattle.cert_text.specs.CoverLists.Planning.{problem_by}
 use Rattle.cert_checker.specs.Parsed.{there}
 use Rattle.cert_checker.specs.Conditions.{AreAnswered}
 use Rattle.cert_checker.proofs.ParsedLaws.{ok_also}
@@ -13,26 +13,26 @@ use Rattle.cert_checker.proofs.answered.are_answered.Goals as goal
 
 pub returns-then-not-branch : goal.returns-then-not-branch
 returns-then-not-branch g c =
-    let problem = problem_of c.args.terms.now.tour.now (g.B.RuleBook.machine c.args.terms.now.book.now) in
+    let problem = problem_by c.args.terms.now.tour.now (g.B.RuleBook.machine c.args.terms.now.book.now) (g.K.LabelBound.bounds c.args.terms.now.bound.now).bound in
     let tries = ap idle_list (sym c.idles-first.ensures) in
     unanswered problem c.args.terms.now.target (c.args.step + 1) (there c.args.labels.now) c.args.label.now c.args.step (idle_list c.idles-first.result) Drive c.in_ok-are_answered_by.field-0 tries (inl refl) c.in_ok-are_answered_by.ensures c.if-not-branch.true
 
 pub returns-then-not-branch-2 : goal.returns-then-not-branch-2
 returns-then-not-branch-2 g c =
-    let problem = problem_of c.args.terms.now.tour.now (g.B.RuleBook.machine c.args.terms.now.book.now) in
+    let problem = problem_by c.args.terms.now.tour.now (g.B.RuleBook.machine c.args.terms.now.book.now) (g.K.LabelBound.bounds c.args.terms.now.bound.now).bound in
     let tries = ap idle_list (sym c.idles-first.ensures) in
     unanswered problem c.args.terms.now.target (c.args.step + 1) (there c.args.labels.now) c.args.label.now c.args.step (idle_list c.idles-first.result) Serve c.in_ok-are_answered_by-2.field-0 tries (inr (inl refl)) c.in_ok-are_answered_by-2.ensures c.if-not-branch-2.true
 
 pub returns-then-not-branch-3 : goal.returns-then-not-branch-3
 returns-then-not-branch-3 g c =
-    let problem = problem_of c.args.terms.now.tour.now (g.B.RuleBook.machine c.args.terms.now.book.now) in
+    let problem = problem_by c.args.terms.now.tour.now (g.B.RuleBook.machine c.args.terms.now.book.now) (g.K.LabelBound.bounds c.args.terms.now.bound.now).bound in
     let first = c.idles-first.result.first in
     let tries = ap idle_list (sym c.idles-first.ensures) in
     unanswered problem c.args.terms.now.target (c.args.step + 1) (there c.args.labels.now) c.args.label.now c.args.step (idle_list c.idles-first.result) first c.in_ok-are_answered_by-3.field-0 tries (inr (inr (inl refl))) c.in_ok-are_answered_by-3.ensures c.if-not-branch-3.true
 
 pub returns-in-None : goal.returns-in-None
 returns-in-None g c =
-    let problem = problem_of c.args.terms.now.tour.now (g.B.RuleBook.machine c.args.terms.now.book.now) in
+    let problem = problem_by c.args.terms.now.tour.now (g.B.RuleBook.machine c.args.terms.now.book.now) (g.K.LabelBound.bounds c.args.terms.now.bound.now).bound in
     let xs = idle_list c.idles-first.result in
     let tries : problem.tries c.args.label.now.state ≡ xs = ap idle_list (sym c.idles-first.ensures) in
     let drive = c.in_ok-are_answered_by.ensures.0 c.if-not-branch.false in
@@ -46,7 +46,7 @@ returns-in-None g c =
 
 pub returns-in-Some : goal.returns-in-Some
 returns-in-Some g c =
-    let problem = problem_of c.args.terms.now.tour.now (g.B.RuleBook.machine c.args.terms.now.book.now) in
+    let problem = problem_by c.args.terms.now.tour.now (g.B.RuleBook.machine c.args.terms.now.book.now) (g.K.LabelBound.bounds c.args.terms.now.bound.now).bound in
     let xs = idle_list c.idles-first.result in
     let tries : problem.tries c.args.label.now.state ≡ xs = ap idle_list (sym c.idles-first.ensures) in
     let drive = c.in_ok-are_answered_by.ensures.0 c.if-not-branch.false in

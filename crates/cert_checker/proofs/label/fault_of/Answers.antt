@@ -1,6 +1,6 @@
 use Rattle.std.proofs.Common.{◌≤◌, take, sym, ◌∙◌, subst, arith}
 use Rattle.tour_model.specs.Word.{word_length}
-use Rattle.cert_text.specs.CoverLists.Planning.{problem_of, state_at, minute_of}
+use Rattle.cert_text.specs.CoverLists.Planning.{problem_by, state_at, minute_of}
 use Rattle.cert_text.specs.CoverLists.Cover.{IsLabelAt, NoneCovers}
 use Rattle.cert_checker.specs.Parsed.{there}
 use Rattle.cert_checker.specs.Conditions.{IsLongEnough}
@@ -28,13 +28,13 @@ stands g c =
     label_from (state_at c.args.terms.now.tour.now (g.B.RuleBook.machine c.args.terms.now.book.now)) all c.args.step c.args.label.now c.requires.next.state within (c.has_left.ensures.0 c.if-not-has_left.false)
 
 -- finished, it has not taken less than the target
-long : (g : _) (c : In_ok-is_answered_for g) → IsLongEnough (problem_of c.args.terms.now.tour.now (g.B.RuleBook.machine c.args.terms.now.book.now)) c.args.terms.now.target c.args.step c.args.label.now
+long : (g : _) (c : In_ok-is_answered_for g) → IsLongEnough (problem_by c.args.terms.now.tour.now (g.B.RuleBook.machine c.args.terms.now.book.now) (g.K.LabelBound.bounds c.args.terms.now.bound.now).bound) c.args.terms.now.target c.args.step c.args.label.now
 long g c done = c.is_long_enough.ensures.0 c.if-not-is_long_enough.false (done ∙ sym c.requires.next.by.goal)
 
 -- none before it is better
-fresh : (g : _) (c : In_ok-is_answered_for g) → NoneCovers (problem_of c.args.terms.now.tour.now (g.B.RuleBook.machine c.args.terms.now.book.now)) c.args.step (there (take c.args.place c.args.labels.now)) c.args.label.now
+fresh : (g : _) (c : In_ok-is_answered_for g) → NoneCovers (problem_by c.args.terms.now.tour.now (g.B.RuleBook.machine c.args.terms.now.book.now) (g.K.LabelBound.bounds c.args.terms.now.bound.now).bound) c.args.step (there (take c.args.place c.args.labels.now)) c.args.label.now
 fresh g c =
-    none_better (problem_of c.args.terms.now.tour.now (g.B.RuleBook.machine c.args.terms.now.book.now)) c.args.step (there (take c.args.place c.args.labels.now)) c.of-asked.result c.args.label.now c.is_covered_before.result c.of-asked.ensures c.is_covered_before.ensures c.if-is_covered_before.false
+    none_better (problem_by c.args.terms.now.tour.now (g.B.RuleBook.machine c.args.terms.now.book.now) (g.K.LabelBound.bounds c.args.terms.now.bound.now).bound) c.args.step (there (take c.args.place c.args.labels.now)) c.of-asked.result c.args.label.now c.is_covered_before.result c.of-asked.ensures c.is_covered_before.ensures c.if-is_covered_before.false
 
 pub returns-then-not-branch : goal.returns-then-not-branch
 returns-then-not-branch g c =

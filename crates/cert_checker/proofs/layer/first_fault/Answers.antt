@@ -1,7 +1,7 @@
 use Rattle.std.proofs.Common.{◌≡◌, ◌<◌, length, take, get_or, subst}
 use Rattle.std.specs.Prelude.{None, MatchOption}
 use Rattle.std.proofs.lemmas.List.{get_or_read}
-use Rattle.cert_text.specs.CoverLists.Planning.{problem_of, state_at}
+use Rattle.cert_text.specs.CoverLists.Planning.{problem_by, state_at}
 use Rattle.cert_checker.specs.Parsed.{there}
 use Rattle.cert_checker.specs.Conditions.{Passes, FailsBy}
 use Rattle.cert_checker.proofs.ParsedLaws.{there_item}
@@ -20,7 +20,7 @@ fault_at-requires-clause-progress g c l e =
 
 pub loop-index-preserved : goal.loop-index-preserved
 loop-index-preserved g c =
-    let problem = problem_of c.args.terms.now.tour.now (g.B.RuleBook.machine c.args.terms.now.book.now) in
+    let problem = problem_by c.args.terms.now.tour.now (g.B.RuleBook.machine c.args.terms.now.book.now) (g.K.LabelBound.bounds c.args.terms.now.bound.now).bound in
     let is_state = state_at c.args.terms.now.tour.now (g.B.RuleBook.machine c.args.terms.now.book.now) in
     let os = c.args.labels.now in
     let i = c.loop-index.index in

@@ -3,7 +3,7 @@ use Rattle.std.specs.Prelude.{MatchOption}
 use Rattle.std.proofs.lemmas.List.{length-map}
 use Rattle.tour_model.specs.Layer.{layer_at}
 use Rattle.tour_model.specs.Word.{word_length}
-use Rattle.cert_text.specs.CoverLists.Planning.{problem_of, state_at, minute_of}
+use Rattle.cert_text.specs.CoverLists.Planning.{problem_by, state_at, minute_of}
 use Rattle.cert_checker.specs.Parsed.{label_of, there}
 use Rattle.cert_checker.specs.Conditions.{PassUpTo, IsFirstFault}
 use Rattle.cert_checker.proofs.LabelLaws.{lines_more, read_is, layers_more, layers_whole}
@@ -21,7 +21,7 @@ loop-step-init g c = record {
 
 pub loop-step-preserved : goal.loop-step-preserved
 loop-step-preserved g c =
-    let problem = problem_of c.args.terms.now.tour.now (g.B.RuleBook.machine c.args.terms.now.book.now) in
+    let problem = problem_by c.args.terms.now.tour.now (g.B.RuleBook.machine c.args.terms.now.book.now) (g.K.LabelBound.bounds c.args.terms.now.bound.now).bound in
     let is_state = state_at c.args.terms.now.tour.now (g.B.RuleBook.machine c.args.terms.now.book.now) in
     let state_of = (g.B.RuleBook.machine c.args.terms.now.book.now).state_of in
     let tour = c.args.terms.now.tour.now in
@@ -50,7 +50,7 @@ loop-step-preserved g c =
 
 pub returns : goal.returns
 returns g c =
-    let problem = problem_of c.args.terms.now.tour.now (g.B.RuleBook.machine c.args.terms.now.book.now) in
+    let problem = problem_by c.args.terms.now.tour.now (g.B.RuleBook.machine c.args.terms.now.book.now) (g.K.LabelBound.bounds c.args.terms.now.bound.now).bound in
     let is_state = state_at c.args.terms.now.tour.now (g.B.RuleBook.machine c.args.terms.now.book.now) in
     let all : length c.items-layers.result.now ≡ length c.args.layers.now = ap length c.items-layers.ensures in
     layers_whole problem is_state (g.B.RuleBook.machine c.args.terms.now.book.now).state_of c.args.terms.now.tour.now c.args.terms.now.target c.args.layers.now c.loop-step.step (length c.args.layers.now) (omega arith) c.loop-step.invariant.pass
