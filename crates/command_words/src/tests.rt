@@ -53,230 +53,144 @@ fn told(alloc: Global, words: &[&str]) -> Result<String, Fail> {
 /// Each row's words ask for what the row says.
 fn rows_hold(rt: &impl Abort, alloc: Global, rows: &[(&[&str], &str)]) -> Result<(), Fail> {
     for (words, wanted) in rows {
-        assert_eq!(rt; told(alloc, words)?.as_str(), *wanted);
+        assert_eq!(rt; told(alloc, words)?.as_str(), *wanted, "at {words:?}");
     }
     Ok(())
 }
 
-#[test]
-fn plain_forms_are_commands(rt: HostRuntime) -> Result<(), Fail> {
-    rows_hold(
-        &rt,
-        rt.alloc(),
-        &[
-            (&["plan", "T", "L", "C"], "plan T L C 200000"),
-            (&["check", "T", "L", "C"], "check T L C"),
-            (&["audit", "T", "L"], "audit T L"),
-            (&["graph", "T", "L"], "graph T L"),
-            (&["make", "7", "T", "L"], "make 7 T L"),
-        ],
-    )
-}
+/// Forms without options.
+const PLAIN: &[(&[&str], &str)] = &[
+    // Plain forms.
+    (&["plan", "T", "L", "C"], "plan T L C 200000"),
+    (&["check", "T", "L", "C"], "check T L C"),
+    (&["audit", "T", "L"], "audit T L"),
+    (&["graph", "T", "L"], "graph T L"),
+    (&["make", "7", "T", "L"], "make 7 T L"),
+    // Two names may be equal.
+    (&["plan", "F", "F", "F"], "plan F F F 200000"),
+    (&["graph", "F", "F"], "graph F F"),
+];
+
+/// Budgets.
+const BUDGETS: &[(&[&str], &str)] = &[
+    // A budget stands anywhere after the name.
+    (&["plan", "T", "L", "C", "--budget", "3"], "plan T L C 3"),
+    (&["plan", "T", "L", "C", "--budget=3"], "plan T L C 3"),
+    (&["plan", "--budget", "3", "T", "L", "C"], "plan T L C 3"),
+    (&["plan", "T", "--budget=3", "L", "C"], "plan T L C 3"),
+    (&["--budget", "3", "plan", "T", "L", "C"], "usage"),
+    // A budget is a number in its bounds.
+    (&["plan", "T", "L", "C", "--budget", "0"], "usage"),
+    (&["plan", "T", "L", "C", "--budget", "1"], "plan T L C 1"),
+    (
+        &["plan", "T", "L", "C", "--budget", "500000"],
+        "plan T L C 500000",
+    ),
+    (&["plan", "T", "L", "C", "--budget", "500001"], "usage"),
+    (
+        &["plan", "T", "L", "C", "--budget", "18446744073709551617"],
+        "usage",
+    ),
+    // A budget is read as a `u32`.
+    (&["plan", "T", "L", "C", "--budget", "+3"], "plan T L C 3"),
+    (&["plan", "T", "L", "C", "--budget", "007"], "plan T L C 7"),
+    (&["plan", "T", "L", "C", "--budget", "x"], "usage"),
+    (&["plan", "T", "L", "C", "--budget", "3 "], "usage"),
+    (&["plan", "T", "L", "C", "--budget", "-3"], "usage"),
+    (&["plan", "T", "L", "C", "--budget=-3"], "usage"),
+    (&["plan", "T", "L", "C", "--budget", ""], "usage"),
+    (&["plan", "T", "L", "C", "--budget="], "usage"),
+    // A budget is given once and whole.
+    (
+        &["plan", "T", "L", "C", "--budget", "3", "--budget", "3"],
+        "usage",
+    ),
+    (
+        &["plan", "T", "L", "C", "--budget=3", "--budget=4"],
+        "usage",
+    ),
+    (&["plan", "T", "L", "C", "--budget"], "usage"),
+    (&["plan", "T", "L", "C", "--budget", "--", "3"], "usage"),
+    (&["plan", "T", "L", "C", "--bud", "3"], "usage"),
+    (&["check", "T", "L", "C", "--budget", "3"], "usage"),
+    (&["make", "7", "T", "L", "--budget", "3"], "usage"),
+];
+
+/// Two hyphens, and names that begin with one.
+const HYPHENS: &[(&[&str], &str)] = &[
+    // Two hyphens end the options.
+    (&["plan", "--", "T", "L", "C"], "plan T L C 200000"),
+    (&["plan", "T", "L", "C", "--"], "plan T L C 200000"),
+    (&["plan", "T", "L", "--", "-c"], "plan T L -c 200000"),
+    (
+        &["plan", "--budget", "3", "--", "-t", "-l", "--budget"],
+        "plan -t -l --budget 3",
+    ),
+    (&["plan", "--", "T", "L", "C", "--budget", "3"], "usage"),
+    (&["audit", "--", "--", "-l"], "audit -- -l"),
+    (&["--", "audit", "T", "L"], "usage"),
+    // Names that begin with a hyphen.
+    (&["plan", "-", "-", "-"], "plan - - - 200000"),
+    (&["audit", "-t", "L"], "usage"),
+    (&["audit", "T", "--log"], "usage"),
+    (&["audit", "T", "-1"], "usage"),
+    (&["audit", "T", "--", "-1"], "audit T -1"),
+    (&["audit", "", "L"], "audit  L"),
+];
+
+/// Numbers of made tours.
+const NUMBERS: &[(&[&str], &str)] = &[
+    (&["make", "0", "T", "L"], "make 0 T L"),
+    (&["make", "999999", "T", "L"], "make 999999 T L"),
+    (&["make", "1000000", "T", "L"], "usage"),
+    (&["make", "+3", "T", "L"], "make 3 T L"),
+    (&["make", "x", "T", "L"], "usage"),
+    (&["make", "", "T", "L"], "usage"),
+    (&["make", "-3", "T", "L"], "usage"),
+    (&["make", "--", "-3", "T", "L"], "usage"),
+    (&["make", "--", "-0", "T", "L"], "usage"),
+    (&["make", "T", "L", "3"], "usage"),
+];
+
+/// Words that are too few or too many.
+const COUNTS: &[(&[&str], &str)] = &[
+    // Too few words.
+    (&[], "usage"),
+    (&["plan"], "usage"),
+    (&["plan", "T", "L"], "usage"),
+    (&["check", "T", "L"], "usage"),
+    (&["audit", "T"], "usage"),
+    (&["graph", "T"], "usage"),
+    (&["make", "7", "T"], "usage"),
+    // Too many words.
+    (&["plan", "T", "L", "C", "D"], "usage"),
+    (&["check", "T", "L", "C", "D"], "usage"),
+    (&["audit", "T", "L", "C"], "usage"),
+    (&["graph", "T", "L", "C"], "usage"),
+    (&["make", "7", "T", "L", "C"], "usage"),
+];
+
+/// Other first words, and flags.
+const OTHERS: &[(&[&str], &str)] = &[
+    // Other first words.
+    (&["help"], "usage"),
+    (&["Plan", "T", "L", "C"], "usage"),
+    (&["pla", "T", "L", "C"], "usage"),
+    (&["", "T", "L"], "usage"),
+    (&["--help"], "usage"),
+    // No flag asks for help or a version.
+    (&["plan", "--help"], "usage"),
+    (&["plan", "T", "L", "C", "--help"], "usage"),
+    (&["audit", "T", "L", "-h"], "usage"),
+    (&["audit", "T", "L", "--version"], "usage"),
+    (&["audit", "T", "L", "-V"], "usage"),
+    (&["audit", "help", "L"], "audit help L"),
+];
 
 #[test]
-fn two_names_may_be_equal(rt: HostRuntime) -> Result<(), Fail> {
-    rows_hold(
-        &rt,
-        rt.alloc(),
-        &[
-            (&["plan", "F", "F", "F"], "plan F F F 200000"),
-            (&["graph", "F", "F"], "graph F F"),
-        ],
-    )
-}
-
-#[test]
-fn a_budget_stands_anywhere_after_the_name(rt: HostRuntime) -> Result<(), Fail> {
-    rows_hold(
-        &rt,
-        rt.alloc(),
-        &[
-            (&["plan", "T", "L", "C", "--budget", "3"], "plan T L C 3"),
-            (&["plan", "T", "L", "C", "--budget=3"], "plan T L C 3"),
-            (&["plan", "--budget", "3", "T", "L", "C"], "plan T L C 3"),
-            (&["plan", "T", "--budget=3", "L", "C"], "plan T L C 3"),
-            (&["--budget", "3", "plan", "T", "L", "C"], "usage"),
-        ],
-    )
-}
-
-#[test]
-fn a_budget_is_a_number_in_its_bounds(rt: HostRuntime) -> Result<(), Fail> {
-    rows_hold(
-        &rt,
-        rt.alloc(),
-        &[
-            (&["plan", "T", "L", "C", "--budget", "0"], "usage"),
-            (&["plan", "T", "L", "C", "--budget", "1"], "plan T L C 1"),
-            (
-                &["plan", "T", "L", "C", "--budget", "500000"],
-                "plan T L C 500000",
-            ),
-            (&["plan", "T", "L", "C", "--budget", "500001"], "usage"),
-            (
-                &["plan", "T", "L", "C", "--budget", "18446744073709551617"],
-                "usage",
-            ),
-        ],
-    )
-}
-
-#[test]
-fn a_budget_is_read_as_a_u32(rt: HostRuntime) -> Result<(), Fail> {
-    rows_hold(
-        &rt,
-        rt.alloc(),
-        &[
-            (&["plan", "T", "L", "C", "--budget", "+3"], "plan T L C 3"),
-            (&["plan", "T", "L", "C", "--budget", "007"], "plan T L C 7"),
-            (&["plan", "T", "L", "C", "--budget", "x"], "usage"),
-            (&["plan", "T", "L", "C", "--budget", "3 "], "usage"),
-            (&["plan", "T", "L", "C", "--budget", "-3"], "usage"),
-            (&["plan", "T", "L", "C", "--budget=-3"], "usage"),
-            (&["plan", "T", "L", "C", "--budget", ""], "usage"),
-            (&["plan", "T", "L", "C", "--budget="], "usage"),
-        ],
-    )
-}
-
-#[test]
-fn a_budget_is_given_once_and_whole(rt: HostRuntime) -> Result<(), Fail> {
-    rows_hold(
-        &rt,
-        rt.alloc(),
-        &[
-            (
-                &["plan", "T", "L", "C", "--budget", "3", "--budget", "3"],
-                "usage",
-            ),
-            (
-                &["plan", "T", "L", "C", "--budget=3", "--budget=4"],
-                "usage",
-            ),
-            (&["plan", "T", "L", "C", "--budget"], "usage"),
-            (&["plan", "T", "L", "C", "--budget", "--", "3"], "usage"),
-            (&["plan", "T", "L", "C", "--bud", "3"], "usage"),
-            (&["check", "T", "L", "C", "--budget", "3"], "usage"),
-            (&["make", "7", "T", "L", "--budget", "3"], "usage"),
-        ],
-    )
-}
-
-#[test]
-fn two_hyphens_end_the_options(rt: HostRuntime) -> Result<(), Fail> {
-    rows_hold(
-        &rt,
-        rt.alloc(),
-        &[
-            (&["plan", "--", "T", "L", "C"], "plan T L C 200000"),
-            (&["plan", "T", "L", "C", "--"], "plan T L C 200000"),
-            (&["plan", "T", "L", "--", "-c"], "plan T L -c 200000"),
-            (
-                &["plan", "--budget", "3", "--", "-t", "-l", "--budget"],
-                "plan -t -l --budget 3",
-            ),
-            (&["plan", "--", "T", "L", "C", "--budget", "3"], "usage"),
-            (&["audit", "--", "--", "-l"], "audit -- -l"),
-            (&["--", "audit", "T", "L"], "usage"),
-        ],
-    )
-}
-
-#[test]
-fn names_that_begin_with_a_hyphen(rt: HostRuntime) -> Result<(), Fail> {
-    rows_hold(
-        &rt,
-        rt.alloc(),
-        &[
-            (&["plan", "-", "-", "-"], "plan - - - 200000"),
-            (&["audit", "-t", "L"], "usage"),
-            (&["audit", "T", "--log"], "usage"),
-            (&["audit", "T", "-1"], "usage"),
-            (&["audit", "T", "--", "-1"], "audit T -1"),
-            (&["audit", "", "L"], "audit  L"),
-        ],
-    )
-}
-
-#[test]
-fn a_made_tour_has_a_number(rt: HostRuntime) -> Result<(), Fail> {
-    rows_hold(
-        &rt,
-        rt.alloc(),
-        &[
-            (&["make", "0", "T", "L"], "make 0 T L"),
-            (&["make", "999999", "T", "L"], "make 999999 T L"),
-            (&["make", "1000000", "T", "L"], "usage"),
-            (&["make", "+3", "T", "L"], "make 3 T L"),
-            (&["make", "x", "T", "L"], "usage"),
-            (&["make", "", "T", "L"], "usage"),
-            (&["make", "-3", "T", "L"], "usage"),
-            (&["make", "--", "-3", "T", "L"], "usage"),
-            (&["make", "--", "-0", "T", "L"], "usage"),
-            (&["make", "T", "L", "3"], "usage"),
-        ],
-    )
-}
-
-#[test]
-fn too_few_words(rt: HostRuntime) -> Result<(), Fail> {
-    rows_hold(
-        &rt,
-        rt.alloc(),
-        &[
-            (&[], "usage"),
-            (&["plan"], "usage"),
-            (&["plan", "T", "L"], "usage"),
-            (&["check", "T", "L"], "usage"),
-            (&["audit", "T"], "usage"),
-            (&["graph", "T"], "usage"),
-            (&["make", "7", "T"], "usage"),
-        ],
-    )
-}
-
-#[test]
-fn too_many_words(rt: HostRuntime) -> Result<(), Fail> {
-    rows_hold(
-        &rt,
-        rt.alloc(),
-        &[
-            (&["plan", "T", "L", "C", "D"], "usage"),
-            (&["check", "T", "L", "C", "D"], "usage"),
-            (&["audit", "T", "L", "C"], "usage"),
-            (&["graph", "T", "L", "C"], "usage"),
-            (&["make", "7", "T", "L", "C"], "usage"),
-        ],
-    )
-}
-
-#[test]
-fn other_first_words(rt: HostRuntime) -> Result<(), Fail> {
-    rows_hold(
-        &rt,
-        rt.alloc(),
-        &[
-            (&["help"], "usage"),
-            (&["Plan", "T", "L", "C"], "usage"),
-            (&["pla", "T", "L", "C"], "usage"),
-            (&["", "T", "L"], "usage"),
-            (&["--help"], "usage"),
-        ],
-    )
-}
-
-#[test]
-fn no_flag_asks_for_help_or_a_version(rt: HostRuntime) -> Result<(), Fail> {
-    rows_hold(
-        &rt,
-        rt.alloc(),
-        &[
-            (&["plan", "--help"], "usage"),
-            (&["plan", "T", "L", "C", "--help"], "usage"),
-            (&["audit", "T", "L", "-h"], "usage"),
-            (&["audit", "T", "L", "--version"], "usage"),
-            (&["audit", "T", "L", "-V"], "usage"),
-            (&["audit", "help", "L"], "audit help L"),
-        ],
-    )
+fn words_ask_for_commands(rt: HostRuntime) -> Result<(), Fail> {
+    for rows in [PLAIN, BUDGETS, HYPHENS, NUMBERS, COUNTS, OTHERS] {
+        rows_hold(&rt, rt.alloc(), rows)?;
+    }
+    Ok(())
 }
