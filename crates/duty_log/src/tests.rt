@@ -85,52 +85,40 @@ fn tells_a_bad_header(rt: HostRuntime) {
 }
 
 /// The fault of a log with these rows after its header.
-fn fault_of(alloc: Global, rows: &[u8], params: Params) -> Result<Option<LogFault>, Fail> {
-    let mut text = Vec::new(alloc);
-    text.extend_from_slice(b"from,to,status\n")?;
-    text.extend_from_slice(rows)?;
-    Ok(read_log(alloc, &text, params, START).err())
+fn fault_of(alloc: Global, rows: &str, params: Params) -> Result<Option<LogFault>, Fail> {
+    let text = format!(in alloc; "from,to,status\n{rows}\n")?;
+    Ok(read_log(alloc, text.as_bytes(), params, START).err())
 }
 
 #[test]
 fn tells_the_first_fault(rt: HostRuntime) -> Result<(), Fail> {
+    use LogFault::*;
+    let gap = "2026-03-02T04:00,2026-03-02T05:00,D\n2026-03-02T05:01,2026-03-02T06:00,ON";
     for (rows, params, fault) in [
-        (b"D,D\n".as_slice(), US, LogFault::NotCsv { row: 1 }),
+        ("D,D", US, NotCsv { row: 1 }),
         (
-            b"2026-03-02T04:00,2026-02-29T06:00,D\n".as_slice(),
+            "2026-03-02T04:00,2026-02-29T06:00,D",
             US,
-            LogFault::BadTime { row: 1 },
+            BadTime { row: 1 },
         ),
         (
-            b"2026-03-02T04:00,2026-03-02T06:00,WORK\n".as_slice(),
+            "2026-03-02T04:00,2026-03-02T06:00,WORK",
             US,
-            LogFault::BadStatus { row: 1 },
+            BadStatus { row: 1 },
         ),
+        ("2026-03-02T06:00,2026-03-02T06:00,D", US, Empty { row: 1 }),
+        (gap, US, Gap { row: 2 }),
         (
-            b"2026-03-02T06:00,2026-03-02T06:00,D\n".as_slice(),
-            US,
-            LogFault::Empty { row: 1 },
-        ),
-        (
-            b"2026-03-02T04:00,2026-03-02T05:00,D\n2026-03-02T05:01,2026-03-02T06:00,ON\n".as_slice(),
-            US,
-            LogFault::Gap { row: 2 },
-        ),
-        (
-            b"2026-03-02T05:00,2026-03-02T05:50,WORK\n".as_slice(),
+            "2026-03-02T05:00,2026-03-02T05:50,WORK",
             AUSTRALIA,
-            LogFault::NotOnUnit { row: 1 },
+            NotOnUnit { row: 1 },
         ),
         (
-            b"2026-02-09T05:59,2026-03-02T06:00,OFF\n".as_slice(),
+            "2026-02-09T05:59,2026-03-02T06:00,OFF",
             US,
-            LogFault::TooLong { row: 1 },
+            TooLong { row: 1 },
         ),
-        (
-            b"2026-02-09T05:59,2026-03-02T05:59,OFF\n".as_slice(),
-            US,
-            LogFault::EndsElsewhere,
-        ),
+        ("2026-02-09T05:59,2026-03-02T05:59,OFF", US, EndsElsewhere),
     ] {
         assert_eq!(rt; fault_of(rt.alloc(), rows, params)?, Some(fault));
     }
