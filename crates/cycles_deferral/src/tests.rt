@@ -212,76 +212,39 @@ fn stands(parts: &[u32], others: &[u32], new_day: bool) -> Option<bool> {
     Some(days.covers(other, new_day))
 }
 
-#[test]
-fn days_with_less_lost_stand_for_others(rt: HostRuntime) {
-    let rested = [0, 400, 200];
-    let tired = [0, 600, 0];
-    assert_eq!(rt;
-        stands(rested.as_slice(), tired.as_slice(), false),
-        Some(true)
-    );
-    assert_eq!(rt;
-        stands(rested.as_slice(), tired.as_slice(), true),
-        Some(true)
-    );
-    assert_eq!(rt;
-        stands(tired.as_slice(), rested.as_slice(), false),
-        Some(false)
-    );
+/// Two histories of days with deferral, whether a minute that follows begins a day, and whether the
+/// days of the first may stand for those of the second.
+const STANDS: &[(&[u32], &[u32], bool, bool)] = &[
+    (&[0, 400, 200], &[0, 600, 0], false, true),
+    (&[0, 400, 200], &[0, 600, 0], true, true),
+    (&[0, 600, 0], &[0, 400, 200], false, false),
     // A rest that may still be lost is no better than what is lost.
-    let short = [0, 580, 20];
-    let long = [0, 570, 30];
-    assert_eq!(rt;
-        stands(long.as_slice(), short.as_slice(), false),
-        Some(true)
-    );
-    assert_eq!(rt;
-        stands(short.as_slice(), long.as_slice(), false),
-        Some(false)
-    );
-}
-
-#[test]
-fn yesterday_is_compared_only_where_it_lost_too_much(rt: HostRuntime) {
-    // An hour into the second day, at rest since the first one's duty.
-    let fewer = [0, 500, 1_000];
-    let within = [0, 840, 660];
-    let above = [0, 841, 659];
-    assert_eq!(rt;
-        stands(within.as_slice(), fewer.as_slice(), false),
-        Some(true)
-    );
-    assert_eq!(rt;
-        stands(above.as_slice(), within.as_slice(), false),
-        Some(false)
-    );
-    assert_eq!(rt;
-        stands(within.as_slice(), above.as_slice(), false),
-        Some(true)
-    );
-}
-
-#[test]
-fn a_deferral_that_is_met_is_compared_no_more(rt: HostRuntime) {
-    // 900 minutes are lost of the first day, so nine hours of rest are needed in the second one.
-    let longer = [0, 900, 580, 20];
-    let enough = [0, 900, 541, 1, 58];
-    let too_short = [0, 900, 539, 1, 60];
-    assert_eq!(rt;
-        stands(enough.as_slice(), longer.as_slice(), false),
-        Some(true)
-    );
-    assert_eq!(rt;
-        stands(too_short.as_slice(), longer.as_slice(), false),
-        Some(false)
-    );
+    (&[0, 570, 30], &[0, 580, 20], false, true),
+    (&[0, 580, 20], &[0, 570, 30], false, false),
+    // An hour into the second day, at rest since the first one's duty: yesterday is compared only
+    // where it lost too much.
+    (&[0, 840, 660], &[0, 500, 1_000], false, true),
+    (&[0, 841, 659], &[0, 840, 660], false, false),
+    (&[0, 840, 660], &[0, 841, 659], false, true),
+    // A deferral that is met is compared no more. 900 minutes are lost of the first day, so nine
+    // hours of rest are needed in the second one.
+    (&[0, 900, 541, 1, 58], &[0, 900, 580, 20], false, true),
+    (&[0, 900, 539, 1, 60], &[0, 900, 580, 20], false, false),
     // An hour into the third day the second one has had them, and 1,600 minutes are lost of both.
-    let fewer = [0, 900, 541, 100, 1399];
-    let more = [0, 900, 541, 700, 799];
-    assert_eq!(rt;
-        stands(more.as_slice(), fewer.as_slice(), false),
-        Some(true)
-    );
+    (
+        &[0, 900, 541, 700, 799],
+        &[0, 900, 541, 100, 1399],
+        false,
+        true,
+    ),
+];
+
+#[test]
+fn days_stand_for_worse_ones(rt: HostRuntime) {
+    for (parts, others, new_day, wanted) in STANDS {
+        let stands = stands(parts, others, *new_day);
+        assert_eq!(rt; stands, Some(*wanted), "{parts:?} for {others:?}");
+    }
 }
 
 /// The counts of a cycle after so many minutes of an activity, all in one day.
@@ -310,31 +273,26 @@ fn drives_after(cycle: u8, rest: u32, sums: &[u32], without: u32, n: u32) -> Opt
 
 #[test]
 fn a_cycle_ends_at_its_limit_and_begins_anew_after_a_reset(rt: HostRuntime) {
-    let full = [600; 7];
-    let almost = [599, 600, 600, 600, 600, 600, 600];
-    for (sums, rest, n, kept) in [
-        (full, 0, 0, false),
-        (almost, 0, 0, true),
-        (full, 1800, 359, false),
-        (full, 1800, 360, true),
-    ] {
-        let after = drives_after(1, rest, sums.as_slice(), 0, n);
-        assert_eq!(rt; after.is_some(), kept, "cycle 1, {rest} and {n}");
-    }
+    let full_week = [600; 7];
+    let almost_a_week = [599, 600, 600, 600, 600, 600, 600];
     let full = [
         600, 600, 600, 600, 600, 600, 600, 600, 600, 600, 600, 600, 0, 0,
     ];
     let almost = [
         599, 600, 600, 600, 600, 600, 600, 600, 600, 600, 600, 600, 0, 0,
     ];
-    for (sums, rest, n, kept) in [
-        (full, 0, 0, false),
-        (almost, 0, 0, true),
-        (full, 4000, 319, false),
-        (full, 4000, 320, true),
+    for (cycle, sums, rest, n, kept) in [
+        (1, full_week.as_slice(), 0, 0, false),
+        (1, almost_a_week.as_slice(), 0, 0, true),
+        (1, full_week.as_slice(), 1800, 359, false),
+        (1, full_week.as_slice(), 1800, 360, true),
+        (2, full.as_slice(), 0, 0, false),
+        (2, almost.as_slice(), 0, 0, true),
+        (2, full.as_slice(), 4000, 319, false),
+        (2, full.as_slice(), 4000, 320, true),
     ] {
-        let after = drives_after(2, rest, sums.as_slice(), 0, n);
-        assert_eq!(rt; after.is_some(), kept, "cycle 2, {rest} and {n}");
+        let after = drives_after(cycle, rest, sums, 0, n);
+        assert_eq!(rt; after.is_some(), kept, "cycle {cycle}, {rest} and {n}");
     }
 }
 

@@ -1,40 +1,25 @@
 //! The rules of Canada at histories told in words, each with the rules that it breaks: at the limit,
 //! and with one minute more or less.
+ghost use Rattle.std.specs.Prelude.{◌≤◌};
+ghost use Rattle.duty_core.specs.Params.{AreGoodParams};
+
 use crate::cases::assert_broken;
 use duty_core::{Params, RestWay};
 use std::test::Fail;
 
-/// Deferral in a truck without a berth, in cycle 1.
-const DEFER_1: Params = Params::Canada {
-    berth: false,
-    way: RestWay::Defer,
-    cycle: 1,
-    day_start: 0,
-};
-
-/// Deferral in a truck without a berth, in cycle 2.
-const DEFER_2: Params = Params::Canada {
-    berth: false,
-    way: RestWay::Defer,
-    cycle: 2,
-    day_start: 0,
-};
-
-/// Split rests in a truck without a berth, in cycle 1.
-const SPLIT_1: Params = Params::Canada {
-    berth: false,
-    way: RestWay::Split,
-    cycle: 1,
-    day_start: 0,
-};
-
-/// Split rests in a truck with a berth, in cycle 1.
-const BERTH_1: Params = Params::Canada {
-    berth: true,
-    way: RestWay::Split,
-    cycle: 1,
-    day_start: 0,
-};
+/// The rules in a truck with a berth or without one, by a way to rest and a cycle.
+fn canada(berth: bool, way: RestWay, cycle: u8) -> Params
+    requires least { 1 ≤ cycle }
+    requires most { cycle ≤ 2 }
+    ensures { AreGoodParams result }
+{
+    Params::Canada {
+        berth,
+        way,
+        cycle,
+        day_start: 0,
+    }
+}
 
 /// Days and shifts.
 const DAYS: &[&str] = &[
@@ -154,14 +139,14 @@ const CYCLE_2: &[&str] = &[
 
 #[test]
 fn rules_of_days_in_canada(rt: HostRuntime) -> Result<(), Fail> {
-    assert_broken(&rt, rt.alloc(), DEFER_1, DAYS)?;
-    assert_broken(&rt, rt.alloc(), DEFER_1, LOST)
+    assert_broken(&rt, rt.alloc(), canada(false, RestWay::Defer, 1), DAYS)?;
+    assert_broken(&rt, rt.alloc(), canada(false, RestWay::Defer, 1), LOST)
 }
 
 #[test]
 fn split_rests_and_cycles_in_canada(rt: HostRuntime) -> Result<(), Fail> {
-    assert_broken(&rt, rt.alloc(), BERTH_1, BERTH)?;
-    assert_broken(&rt, rt.alloc(), SPLIT_1, NO_BERTH)?;
-    assert_broken(&rt, rt.alloc(), DEFER_1, CYCLE_1)?;
-    assert_broken(&rt, rt.alloc(), DEFER_2, CYCLE_2)
+    assert_broken(&rt, rt.alloc(), canada(true, RestWay::Split, 1), BERTH)?;
+    assert_broken(&rt, rt.alloc(), canada(false, RestWay::Split, 1), NO_BERTH)?;
+    assert_broken(&rt, rt.alloc(), canada(false, RestWay::Defer, 1), CYCLE_1)?;
+    assert_broken(&rt, rt.alloc(), canada(false, RestWay::Defer, 2), CYCLE_2)
 }

@@ -102,30 +102,7 @@ fn leaves_a_stop_without_windows(rt: HostRuntime) -> Result<(), Fail> {
 }
 
 #[test]
-fn tells_missing_fields(rt: HostRuntime) -> Result<(), Fail> {
-    let table = [
-        (r#""grid":7"#, "", Field::Book, None),
-        (r#""book":"us","grid":7,"zone":1"#, "", Field::Start, None),
-        (
-            US,
-            r#"{"name":"","drive":0,"windows":[]}"#,
-            Field::Service,
-            Some(1),
-        ),
-    ];
-    for (fields, stops, expected, number) in table {
-        match read(rt.alloc(), fields, stops) {
-            Err(TourFault::Missing { field, stop }) => {
-                assert_eq!(rt; (field, stop), (expected, number), "at {fields}");
-            }
-            _ => assert!(rt; false, "at {fields}"),
-        }
-    }
-    Ok(())
-}
-
-#[test]
-fn tells_bad_values(rt: HostRuntime) -> Result<(), Fail> {
+fn tells_bad_and_missing_values(rt: HostRuntime) -> Result<(), Fail> {
     let grid =
         r#""book":"us","grid":7,"start":"2026-03-02T06:00","berth":false,"days":9,"day_start":"00:00""#;
     let start = r#""book":"hvnl","grid":15,"start":"2026-03-02T05:50""#;
@@ -135,18 +112,33 @@ fn tells_bad_values(rt: HostRuntime) -> Result<(), Fail> {
         r#"{"name":"A","drive":30.0,"service":0,"windows":[["2026-03-02T06:00","2026-03-05T06:00"]]}"#;
     let windows =
         r#"{"name":"A","drive":0,"service":1,"windows":[["2026-03-02T06:00","2026-03-02T05:59"]]}"#;
+    let no_service = r#"{"name":"","drive":0,"windows":[]}"#;
     let table = [
-        (r#""book":"eu""#, "", Field::Book, None),
-        (grid, "", Field::Grid, None),
-        (start, "", Field::Start, None),
-        (day_start, "", Field::DayStart, None),
-        (US, "7", Field::Stops, Some(1)),
-        (US, drive, Field::Drive, Some(1)),
-        (US, windows, Field::Windows, Some(1)),
+        (r#""book":"eu""#, "", false, Field::Book, None),
+        (grid, "", false, Field::Grid, None),
+        (start, "", false, Field::Start, None),
+        (day_start, "", false, Field::DayStart, None),
+        (US, "7", false, Field::Stops, Some(1)),
+        (US, drive, false, Field::Drive, Some(1)),
+        (US, windows, false, Field::Windows, Some(1)),
+        (r#""grid":7"#, "", true, Field::Book, None),
+        (
+            r#""book":"us","grid":7,"zone":1"#,
+            "",
+            true,
+            Field::Start,
+            None,
+        ),
+        (US, no_service, true, Field::Service, Some(1)),
     ];
-    for (fields, stops, expected, number) in table {
+    for (fields, stops, is_missing, expected, number) in table {
         match read(rt.alloc(), fields, stops) {
             Err(TourFault::BadValue { field, stop }) => {
+                assert!(rt; !is_missing, "at {fields}");
+                assert_eq!(rt; (field, stop), (expected, number), "at {fields}");
+            }
+            Err(TourFault::Missing { field, stop }) => {
+                assert!(rt; is_missing, "at {fields}");
                 assert_eq!(rt; (field, stop), (expected, number), "at {fields}");
             }
             _ => assert!(rt; false, "at {fields}"),
