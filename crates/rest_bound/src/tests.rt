@@ -7,11 +7,12 @@ ghost use Rattle.rest_bound.specs.Table.{AreSmall};
 
 use crate::counts::Counts;
 use crate::least_end::bound;
-use crate::limits::Limits;
+use crate::limits::{Limits, STEP_LIMIT};
 use crate::table::make_table;
 use crate::tour::Tour;
 use duty_core::NoMemory;
 use std::alloc::Global;
+use std::process::Abort;
 use std::test::Fail;
 
 /// So many pieces of driving, and then duty without driving. From the piece `gate` on no piece may be
@@ -113,72 +114,69 @@ fn end_of(
     Ok(bound(&table, road, 0, step, counts))
 }
 
+/// Asserts the bounds for a road, one row each: the pieces, the step and the counts that are asked of,
+/// and the bound.
+fn assert_ends(
+    rt: &impl Abort,
+    alloc: Global,
+    road: Road,
+    limits: Limits,
+    rows: &[(usize, u32, Counts, Option<u32>)],
+) -> Result<(), Fail>
+    requires small { AreSmall limits }
+    requires limits { AreLimits limits }
+{
+    for (pieces, step, counts, wanted) in rows {
+        let (pieces, step, counts) = (*pieces, *step, *counts);
+        assert!(rt; pieces < STEP_LIMIT as usize);
+        assert!(rt; counts.since <= counts.elapsed && counts.driven <= counts.driving);
+        let end = end_of(alloc, &road, limits, pieces, step, counts)?;
+        assert_eq!(rt; end, *wanted, "{pieces} from {step} after {counts:?}");
+    }
+    Ok(())
+}
+
 #[test]
 fn one_piece_takes_a_step(rt: HostRuntime) -> Result<(), Fail> {
-    let drive = open_road(1);
-    assert_eq!(rt; end_of(rt.alloc(), &drive, NO_BERTH, 1, 5, FRESH)?, Some(6));
-    assert_eq!(rt; end_of(rt.alloc(), &drive, NO_BERTH, 0, 5, FRESH)?, Some(5));
-    assert_eq!(rt;
-        end_of(rt.alloc(), &drive, NO_BERTH, 1, 149, FRESH)?,
-        Some(150)
-    );
-    assert_eq!(rt; end_of(rt.alloc(), &drive, NO_BERTH, 1, 150, FRESH)?, None);
-    assert_eq!(rt;
-        end_of(rt.alloc(), &drive, NO_BERTH, 0, 150, FRESH)?,
-        Some(150)
-    );
-    assert_eq!(rt; end_of(rt.alloc(), &drive, NO_BERTH, 0, 151, FRESH)?, None);
-    Ok(())
+    let rows = [
+        (1, 5, FRESH, Some(6)),
+        (0, 5, FRESH, Some(5)),
+        (1, 149, FRESH, Some(150)),
+        (1, 150, FRESH, None),
+        (0, 150, FRESH, Some(150)),
+        (0, 151, FRESH, None),
+    ];
+    assert_ends(&rt, rt.alloc(), open_road(1), NO_BERTH, &rows)
 }
 
 /// Eleven hours of driving on each side of ten hours of rest, each with a break of one: 34. Where
 /// rest may be split, the first break is one of the ten: 33.
 #[test]
 fn twenty_two_hours_of_driving(rt: HostRuntime) -> Result<(), Fail> {
-    let drive = open_road(22);
-    assert_eq!(rt;
-        end_of(rt.alloc(), &drive, NO_BERTH, 22, 0, FRESH)?,
-        Some(34)
-    );
-    assert_eq!(rt;
-        end_of(rt.alloc(), &drive, WITH_BERTH, 22, 0, FRESH)?,
-        Some(33)
-    );
     let no_break = Limits {
         unbroken: 22,
         ..NO_BERTH
     };
-    assert_eq!(rt;
-        end_of(rt.alloc(), &drive, no_break, 22, 0, FRESH)?,
-        Some(32)
-    );
-    Ok(())
+    let drive = open_road(22);
+    let all = |end| { (22, 0, FRESH, Some(end)) };
+    assert_ends(&rt, rt.alloc(), drive, NO_BERTH, &[all(34)])?;
+    assert_ends(&rt, rt.alloc(), drive, WITH_BERTH, &[all(33)])?;
+    assert_ends(&rt, rt.alloc(), drive, no_break, &[all(32)])
 }
 
 /// One more hour of driving needs ten of rest before it. Other duty needs none.
 #[test]
 fn spent_driving_needs_a_full_rest(rt: HostRuntime) -> Result<(), Fail> {
-    let drive = open_road(1);
-    assert_eq!(rt;
-        end_of(rt.alloc(), &drive, NO_BERTH, 1, 100, SPENT)?,
-        Some(111)
-    );
-    assert_eq!(rt;
-        end_of(rt.alloc(), &drive, WITH_BERTH, 1, 100, SPENT)?,
-        Some(111)
-    );
-    let serve = open_road(0);
-    assert_eq!(rt;
-        end_of(rt.alloc(), &serve, NO_BERTH, 1, 100, SPENT)?,
-        Some(101)
-    );
-    Ok(())
+    let rested = [(1, 100, SPENT, Some(111))];
+    assert_ends(&rt, rt.alloc(), open_road(1), NO_BERTH, &rested)?;
+    assert_ends(&rt, rt.alloc(), open_road(1), WITH_BERTH, &rested)?;
+    let at_once = [(1, 100, SPENT, Some(101))];
+    assert_ends(&rt, rt.alloc(), open_road(0), NO_BERTH, &at_once)
 }
 
 /// Nine hours of rest want one more; ten are a full rest.
 #[test]
 fn a_run_in_progress_becomes_full(rt: HostRuntime) -> Result<(), Fail> {
-    let drive = open_road(1);
     let nine = Counts {
         elapsed: 21,
         since: 21,
@@ -186,25 +184,15 @@ fn a_run_in_progress_becomes_full(rt: HostRuntime) -> Result<(), Fail> {
         streak: 0,
         ..SPENT
     };
-    assert_eq!(rt;
-        end_of(rt.alloc(), &drive, NO_BERTH, 1, 100, nine)?,
-        Some(102)
-    );
-    assert_eq!(rt;
-        end_of(rt.alloc(), &drive, WITH_BERTH, 1, 100, nine)?,
-        Some(102)
-    );
     let ten = Counts {
         elapsed: 22,
         since: 22,
         run: 10,
         ..nine
     };
-    assert_eq!(rt;
-        end_of(rt.alloc(), &drive, NO_BERTH, 1, 100, ten)?,
-        Some(101)
-    );
-    Ok(())
+    let rows = [(1, 100, nine, Some(102)), (1, 100, ten, Some(101))];
+    assert_ends(&rt, rt.alloc(), open_road(1), NO_BERTH, &rows)?;
+    assert_ends(&rt, rt.alloc(), open_road(1), WITH_BERTH, &rows[..1])
 }
 
 /// A split rest of seven hours waits. Since the base eleven hours were driven, and three since the
@@ -212,26 +200,17 @@ fn a_run_in_progress_becomes_full(rt: HostRuntime) -> Result<(), Fail> {
 /// split rest, that helps nothing, and ten hours of rest are needed.
 #[test]
 fn a_split_rest_waits(rt: HostRuntime) -> Result<(), Fail> {
-    let drive = open_road(1);
-    let waits = Counts {
-        driven: 3,
-        since: 3,
-        waiting: Some(7),
-        ..SPENT
-    };
-    assert_eq!(rt;
-        end_of(rt.alloc(), &drive, WITH_BERTH, 1, 100, waits)?,
-        Some(104)
-    );
     let later = Counts {
         waiting: Some(7),
         ..SPENT
     };
-    assert_eq!(rt;
-        end_of(rt.alloc(), &drive, WITH_BERTH, 1, 100, later)?,
-        Some(111)
-    );
-    Ok(())
+    let waits = Counts {
+        driven: 3,
+        since: 3,
+        ..later
+    };
+    let rows = [(1, 100, waits, Some(104)), (1, 100, later, Some(111))];
+    assert_ends(&rt, rt.alloc(), open_road(1), WITH_BERTH, &rows)
 }
 
 /// Two hours of driving, and duty that may begin at ten.
@@ -242,18 +221,10 @@ fn a_window_opens_later(rt: HostRuntime) -> Result<(), Fail> {
         gate: 2,
         opens: 10,
     };
-    assert_eq!(rt; end_of(rt.alloc(), &road, NO_BERTH, 3, 0, FRESH)?, Some(11));
-    assert_eq!(rt;
-        end_of(rt.alloc(), &road, NO_BERTH, 3, 20, FRESH)?,
-        Some(23)
-    );
-    let never = Road {
-        driving: 2,
-        gate: 2,
-        opens: 150,
-    };
-    assert_eq!(rt; end_of(rt.alloc(), &never, NO_BERTH, 3, 0, FRESH)?, None);
-    Ok(())
+    let rows = [(3, 0, FRESH, Some(11)), (3, 20, FRESH, Some(23))];
+    assert_ends(&rt, rt.alloc(), road, NO_BERTH, &rows)?;
+    let never = Road { opens: 150, ..road };
+    assert_ends(&rt, rt.alloc(), never, NO_BERTH, &[(3, 0, FRESH, None)])
 }
 
 /// Driving that may begin four hours on, one hour before the shift's fourteen are over: a split rest
@@ -272,21 +243,14 @@ fn a_split_rest_does_not_count(rt: HostRuntime) -> Result<(), Fail> {
         since: 13,
         ..FRESH
     };
-    assert_eq!(rt;
-        end_of(rt.alloc(), &road, WITH_BERTH, 1, 100, late)?,
-        Some(105)
-    );
-    assert_eq!(rt;
-        end_of(rt.alloc(), &road, NO_BERTH, 1, 100, late)?,
-        Some(111)
-    );
-    Ok(())
+    let at = |end| { (1, 100, late, Some(end)) };
+    assert_ends(&rt, rt.alloc(), road, WITH_BERTH, &[at(105)])?;
+    assert_ends(&rt, rt.alloc(), road, NO_BERTH, &[at(111)])
 }
 
 /// After eight hours of driving in a row a step of anything else comes before more of it.
 #[test]
 fn a_break_is_due(rt: HostRuntime) -> Result<(), Fail> {
-    let drive = open_road(2);
     let eight = Counts {
         driving: 8,
         elapsed: 8,
@@ -296,22 +260,12 @@ fn a_break_is_due(rt: HostRuntime) -> Result<(), Fail> {
         ..FRESH
     };
     let seven = Counts { streak: 7, ..eight };
-    assert_eq!(rt;
-        end_of(rt.alloc(), &drive, NO_BERTH, 2, 100, eight)?,
-        Some(103)
-    );
-    assert_eq!(rt;
-        end_of(rt.alloc(), &drive, NO_BERTH, 2, 100, seven)?,
-        Some(103)
-    );
-    assert_eq!(rt;
-        end_of(rt.alloc(), &drive, NO_BERTH, 1, 100, seven)?,
-        Some(101)
-    );
-    let serve = open_road(0);
-    assert_eq!(rt;
-        end_of(rt.alloc(), &serve, NO_BERTH, 1, 100, eight)?,
-        Some(101)
-    );
-    Ok(())
+    let driven = [
+        (2, 100, eight, Some(103)),
+        (2, 100, seven, Some(103)),
+        (1, 100, seven, Some(101)),
+    ];
+    assert_ends(&rt, rt.alloc(), open_road(2), NO_BERTH, &driven)?;
+    let served = [(1, 100, eight, Some(101))];
+    assert_ends(&rt, rt.alloc(), open_road(0), NO_BERTH, &served)
 }
