@@ -40,30 +40,26 @@ fn short_nights(log: &mut Timeline, days: u32) -> Result<(), TimelineFault> {
 #[test]
 fn works_five_and_a_quarter_hours(rt: HostRuntime) -> Result<(), Fail> {
     let book = HvnlBook::new(rt.alloc());
-    let mut log = Timeline::new(rt.alloc());
-    log.push_run(Activity::Drive, 21)?;
-    log.push_run(Activity::Off, 1)?;
-    log.push_run(Activity::Serve, 1)?;
-    assert_eq!(rt; replayed(rt.alloc(), &book, &log)?, Ok(1));
-    let mut log = Timeline::new(rt.alloc());
-    log.push_run(Activity::Drive, 22)?;
-    assert_eq!(rt; replayed(rt.alloc(), &book, &log)?, Err(21));
+    for (driving, outcome) in [(21, Ok(1)), (22, Err(21))] {
+        let mut log = Timeline::new(rt.alloc());
+        log.push_run(Activity::Drive, driving)?;
+        log.push_run(Activity::Off, 1)?;
+        log.push_run(Activity::Serve, 1)?;
+        assert_eq!(rt; replayed(rt.alloc(), &book, &log)?, outcome, "{driving}");
+    }
     Ok(())
 }
 
 #[test]
 fn works_twelve_hours_in_a_day(rt: HostRuntime) -> Result<(), Fail> {
     let book = HvnlBook::new(rt.alloc());
-    let mut log = Timeline::new(rt.alloc());
-    twelve_hours(&mut log)?;
-    log.push_run(Activity::Off, 44)?;
-    log.push_run(Activity::Serve, 1)?;
-    assert_eq!(rt; replayed(rt.alloc(), &book, &log)?, Ok(1));
-    let mut log = Timeline::new(rt.alloc());
-    twelve_hours(&mut log)?;
-    log.push_run(Activity::Off, 43)?;
-    log.push_run(Activity::Serve, 1)?;
-    assert_eq!(rt; replayed(rt.alloc(), &book, &log)?, Err(95));
+    for (rest, outcome) in [(44, Ok(1)), (43, Err(95))] {
+        let mut log = Timeline::new(rt.alloc());
+        twelve_hours(&mut log)?;
+        log.push_run(Activity::Off, rest)?;
+        log.push_run(Activity::Serve, 1)?;
+        assert_eq!(rt; replayed(rt.alloc(), &book, &log)?, outcome, "{rest}");
+    }
     Ok(())
 }
 
@@ -125,12 +121,11 @@ fn short_rests(log: &mut Timeline, longest: u32) -> Result<(), TimelineFault> {
 #[test]
 fn wants_seven_hours_of_rest_on_end(rt: HostRuntime) -> Result<(), Fail> {
     let book = HvnlBook::new(rt.alloc());
-    let mut log = Timeline::new(rt.alloc());
-    short_rests(&mut log, 27)?;
-    assert_eq!(rt; replayed(rt.alloc(), &book, &log)?, Err(68));
-    let mut log = Timeline::new(rt.alloc());
-    short_rests(&mut log, 28)?;
-    assert_eq!(rt; replayed(rt.alloc(), &book, &log)?, Ok(1));
+    for (longest, outcome) in [(27, Err(68)), (28, Ok(1))] {
+        let mut log = Timeline::new(rt.alloc());
+        short_rests(&mut log, longest)?;
+        assert_eq!(rt; replayed(rt.alloc(), &book, &log)?, outcome, "{longest}");
+    }
     Ok(())
 }
 
