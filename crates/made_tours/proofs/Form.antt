@@ -1,5 +1,5 @@
 -- The value that a made tour's text is.
-use Rattle.std.proofs.Common.{◌≡◌, ℕ, zero, suc, ◌+◌, ◌*◌, ◌^◌, ◌<◌, ◌≤◌, true, Option, None, Some, List, [], ◌∷◌, ◌++◌, codes, max, refl, sym, ap, ◌∙◌, append-nil, option_map, option_and_then, arith}
+use Rattle.std.proofs.Common.{◌≡◌, ℕ, zero, suc, ◌+◌, ◌<◌, ◌≤◌, true, Option, Some, List, [], ◌++◌, codes, refl, sym, ap, ◌∙◌, append-nil, option_map, option_and_then, arith}
 use Rattle.std.specs.Fmt.{decimal, digits}
 use Rattle.json.specs.Json as json
 use Rattle.json.specs.Json.{if_last}
@@ -7,12 +7,12 @@ use Rattle.json.specs.Lex.{tokens}
 use Rattle.json.specs.Token.{Token}
 use Rattle.json.specs.Tree as tree
 use Rattle.json.proofs.Printed.Trees.{value-json_tokens}
-use Rattle.serde_json.specs.Data.{Num, unsigned, Data, boolean, number, string, array, object, Items, no_items, item, Members, no_members, member}
+use Rattle.serde_json.specs.Data.{Num, unsigned, Data, boolean, number, string, array, object, Items, no_items, item, no_members, member}
 use Rattle.serde_json.specs.Read.{number_of, of_json, of_items, max_depth, read}
 use Rattle.serde_json.proofs.Numbers.{number_of-decimal}
 use Rattle.report_text.specs.Made.{tour_head}
 use Rattle.made_tours.specs.Drawn.{name_drawn}
-use Rattle.made_tours.proofs.Lexed.{windows_json, stop_json, stops_json, tour_json, stops_text, tour_end, AreDrawn, text_tokens}
+use Rattle.made_tours.proofs.Lexed.{windows_json, stops_json, tour_json, stops_text, tour_end, AreDrawn, text_tokens}
 
 -- ---- the values
 

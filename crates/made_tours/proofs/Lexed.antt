@@ -1,10 +1,10 @@
 -- The tokens of a made tour's text.
-use Rattle.std.proofs.Common.{◌≡◌, ◌≢◌, ℕ, zero, suc, ◌+◌, ◌*◌, ◌^◌, ◌<◌, ◌≤◌, ◌==◌, Bool, true, false, List, [], ◌∷◌, ◌++◌, map, drop, codes, refl, sym, ap, ap₂, ◌∙◌, append_assoc, arith}
+use Rattle.std.proofs.Common.{◌≡◌, ℕ, zero, suc, ◌+◌, ◌^◌, ◌<◌, ◌≤◌, true, List, [], ◌∷◌, ◌++◌, map, drop, codes, refl, sym, ap, ap₂, ◌∙◌, append_assoc, arith}
 use Rattle.std.specs.Prelude.{flat_map}
 use Rattle.std.specs.Fmt.{decimal}
 use Rattle.std.specs.List.{range_with_len}
 use Rattle.std.proofs.lemmas.Bool.{ne_eqb}
-use Rattle.json.specs.Json.{Json, boolean, number, string, array, object, Items, no_items, item, Members, no_members, member}
+use Rattle.json.specs.Json.{Json, boolean, number, string, array, object, Items, no_items, item, no_members, member}
 use Rattle.json.specs.Lex.{Lexeme, token, comma, colon, string_token, lex, between, in_string, fresh, after_value, punctuate, tokens}
 use Rattle.json.specs.Print.{escape}
 use Rattle.json.specs.Text.{content, plain}
@@ -18,7 +18,7 @@ use Rattle.json.proofs.Printed.Numbers.{lex-number}
 use Rattle.json.proofs.Printed.Strings.{content-escape, lex-escape}
 use Rattle.report_text.specs.Made.{comma_before, stop_text, tour_head}
 use Rattle.made_tours.specs.Drawn.{name_drawn}
-use Rattle.made_tours.proofs.Names.{IsPlainName, plain_name}
+use Rattle.made_tours.proofs.Names.{plain_name}
 
 -- ---- the JSON of the text
 

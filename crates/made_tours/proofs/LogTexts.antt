@@ -1,5 +1,5 @@
 -- The log that is made before each tour, row by row.
-use Rattle.std.proofs.Common.{◌≡◌, ℕ, ◌+◌, ◌-◌, ◌*◌, ◌/◌, ◌%◌, ◌<◌, ◌≤◌, ◌==◌, ◌&&◌, Bool, true, false, cond, nat_le, nat_lt, not, Option, None, Some, Result, Ok, Err, List, [], ◌∷◌, ◌++◌, length, replicate, codes, refl, sym, ap, subst, ◌∙◌, append_assoc, arith, inl, inr}
+use Rattle.std.proofs.Common.{◌≡◌, ℕ, ◌+◌, ◌-◌, ◌/◌, ◌%◌, ◌<◌, ◌≤◌, ◌==◌, ◌&&◌, Bool, true, false, cond, nat_le, nat_lt, not, Option, Some, Result, Ok, Err, List, [], ◌∷◌, ◌++◌, replicate, codes, refl, sym, ap, subst, ◌∙◌, append_assoc, arith, inl, inr}
 use Rattle.std.proofs.lemmas.Bool.{le-ltb, eq-eqb}
 use Rattle.std.proofs.lemmas.Bool.Decides.{nat_tests}
 use Rattle.csv.proofs.OnLiterals.{csv_on_literals}
@@ -15,7 +15,7 @@ use Rattle.duty_log.specs.declared.fault.LogFault.{LogFault}
 use Rattle.duty_log.specs.declared.fault.LogFault.TheVariants.{Empty, Gap, NotOnUnit, TooLong}
 use Rattle.duty_log.specs.declared.row.Row.{Row}
 use Rattle.duty_log.specs.declared.row.Span.{Span}
-use Rattle.duty_log.specs.Log.{Place, ReadsFields, ReadsLog, ReadsRows, at_start, thereafter, checked, first_of, follows, row_at, with_act}
+use Rattle.duty_log.specs.Log.{Place, ReadsFields, ReadsLog, ReadsRows, at_start, thereafter, checked, first_of, follows, with_act}
 use Rattle.duty_log.specs.Words.{activity_of, header}
 use Rattle.report_text.specs.Made.{log_made}
 use Rattle.made_tours.specs.Drawn.{work_and_rest, log_drawn}

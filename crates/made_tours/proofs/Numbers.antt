@@ -1,7 +1,7 @@
 -- The numbers that are drawn.
-use Rattle.std.proofs.Common.{◌≡◌, ℕ, ◌+◌, ◌*◌, ◌%◌, ◌<◌, ◌≤◌, arith}
+use Rattle.std.proofs.Common.{◌≡◌, ℕ, ◌*◌, ◌≤◌, arith}
 use Rattle.std.specs.Int.{div_ceil}
-use Rattle.report_text.specs.Made.{count_drawn, drive_drawn, service_drawn}
+use Rattle.report_text.specs.Made.{drive_drawn, service_drawn}
 
 -- how far a drawn number may go
 pub drive_most : (q : ℕ) → drive_drawn q ≤ 240

@@ -1,5 +1,5 @@
 -- The tour that a made text reads as.
-use Rattle.std.proofs.Common.{◌≡◌, ℕ, zero, suc, ◌+◌, ◌*◌, ◌%◌, ◌<◌, ◌≤◌, ◌==◌, ◌&&◌, ◌||◌, Bool, true, false, cond, not, nat_le, nat_lt, Option, None, Some, Result, Ok, Err, List, [], ◌∷◌, ◌++◌, map, codes, length, refl, sym, ap, ap₂, ◌∙◌, arith}
+use Rattle.std.proofs.Common.{◌≡◌, ℕ, zero, suc, ◌+◌, ◌*◌, ◌%◌, ◌<◌, ◌≤◌, ◌==◌, ◌&&◌, ◌||◌, Bool, true, false, cond, not, nat_lt, Option, None, Some, Result, Ok, Err, List, [], ◌∷◌, ◌++◌, map, length, refl, ap, ap₂, ◌∙◌, arith}
 use Rattle.std.specs.Prelude.{flat_map}
 use Rattle.std.specs.List.{range_with_len, prefix_len, position}
 use Rattle.std.specs.Str.{is_utf8}
@@ -12,12 +12,12 @@ use Rattle.tour_model.specs.declared.stop.Stop.{Stop}
 use Rattle.tour_model.specs.declared.tour.Tour.{Tour}
 use Rattle.tour_model.specs.declared.limits.TheConstants.{MOST_STOPS, MOST_DRIVE, MOST_SERVICE}
 use Rattle.tour_reader.specs.declared.fault.TourFault.{TourFault}
-use Rattle.tour_reader.specs.declared.fault.TourFault.TheVariants.{TooBig, NotJson, NoStops, TooManyStops}
+use Rattle.tour_reader.specs.declared.fault.TourFault.TheVariants.{TooBig, NoStops, TooManyStops}
 use Rattle.tour_reader.specs.declared.form.TheConstants.{TOUR_LIMIT}
 use Rattle.tour_reader.specs.declared.head.Head.{Head}
 use Rattle.tour_reader.specs.declared.written.Span.{Span}
 use Rattle.tour_reader.specs.declared.written.WrittenStop.{WrittenStop}
-use Rattle.tour_reader.specs.Checks.{stop_names, first_repeated, with_repeated, distinct, ends_late, first_late, with_late, in_time}
+use Rattle.tour_reader.specs.Checks.{stop_names, first_repeated, with_repeated, distinct, ends_late, in_time}
 use Rattle.tour_reader.specs.Fields.{with_fields}
 use Rattle.tour_reader.specs.Gives.{◌>>=◌}
 use Rattle.tour_reader.specs.Books.{day_start_of, us_params}
@@ -27,7 +27,7 @@ use Rattle.tour_reader.specs.Times.{clock_of}
 use Rattle.tour_reader.specs.Tour.{object_from, form_of, tour_in, tour_of}
 use Rattle.tour_reader.specs.Values.{within, list_of}
 use Rattle.tour_reader.specs.Written.{is_name, named, name_at, spans_at, written_fields, written_stop, written_stops, few_stops, stops_of}
-use Rattle.report_text.specs.Made.{draw, count_drawn, stops_drawn, drive_drawn, service_drawn, stop_made, tour_head, tour_made}
+use Rattle.report_text.specs.Made.{draw, drive_drawn, service_drawn, stop_made, tour_head, tour_made}
 use Rattle.made_tours.specs.Drawn.{name_drawn, stop_drawn, tour_drawn}
 use Rattle.made_tours.proofs.Bytes.{text_utf8, text_length}
 use Rattle.made_tours.proofs.Form.{stop_data, stops_data, tour_data, text_reads}

@@ -1,7 +1,4 @@
 use Rattle.std.proofs.Common.{◌≡◌, Ok, Err, ap, sym, ◌∙◌}
-use Rattle.duty_core.specs.declared.params.Params.TheVariants.{UsProperty}
-use Rattle.tour_model.specs.declared.tour.Tour.{Tour}
-use Rattle.tour_reader.specs.declared.fault.TourFault.{TourFault}
 use Rattle.tour_reader.specs.Tour.{tour_of}
 use Rattle.made_tours.specs.Drawn.{tour_drawn}
 use Rattle.made_tours.proofs.TourTexts.{tour_says}
