@@ -1,5 +1,5 @@
 -- The walk that begins each piece as early as may be finds the least end.
-use Rattle.std.proofs.Common.{◌≡◌, ℕ, suc, ◌+◌, ◌-◌, ◌<◌, ◌≤◌, true, false, sym, subst, arith, inl, inr, ◌⊎◌, cond, Bool}
+use Rattle.std.proofs.Common.{◌≡◌, ℕ, suc, ◌+◌, ◌-◌, ◌<◌, ◌≤◌, true, sym, subst, arith, inl, inr, ◌⊎◌}
 use Rattle.std.specs.Prelude.{Option, None, Some}
 use Rattle.std.proofs.lemmas.Bool.{cases_lt}
 use Rattle.rest_bound.specs.declared.limits.Limits.{Limits}
@@ -9,7 +9,7 @@ use Rattle.rest_bound.specs.Ends.{Plan, share, open_mode, fresh_walk, idle_by, w
 use Rattle.rest_bound.specs.CanEnd.{EndsFresh}
 use Rattle.rest_bound.specs.Runs.{AtMost}
 use Rattle.rest_bound.specs.Table.{IsLeast, IsBegin, IsClose, IsWithRest, streak_at, sooner}
-use Rattle.rest_bound.specs.Laws.EndsLaws.{ends_later, ends_after}
+use Rattle.rest_bound.specs.Laws.EndsLaws.{ends_later, ends_after, streak_by}
 use Rattle.rest_bound.proofs.SoonerLaws.{at_most_left, at_most_right, sooner_is}
 use Rattle.rest_bound.proofs.BeginLaws.{streak_new, streak_most}
 
@@ -62,10 +62,6 @@ closes_on m w u x v a b h = record {
   closing = (let c = h.closing in omega arith);
   idle = (let c = h.idle in let d = h.split in omega arith);
 }
-
-streak_by : (d : Bool) (b c : ℕ) → b ≤ c → cond d (b + 1) 0 ≤ cond d (c + 1) 0
-streak_by true b c h = omega arith
-streak_by false b c h = omega arith
 
 -- the first step at which a piece may be done comes before another such step, or has no longer streak
 no_longer : (plan : Plan) (m : Mode) (p : ℕ) (w : Walk) (u x c : ℕ) → u ≤ x → KeepsBreak plan m p w x c → (u + 1 < x + 1) ⊎ (streak_after plan p (streak_at w u) ≤ streak_after plan p c)

@@ -3,3 +3,5 @@ pub mod EndsLaws
 pub mod StepLaws
 pub mod CountLaws
 pub mod OrderLaws
+pub mod Decisions
+pub mod LeastLaws

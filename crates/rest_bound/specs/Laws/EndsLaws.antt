@@ -1,5 +1,5 @@
 -- When one walk can end wherever another can: by more idle steps, by a split rest taken out, or by an earlier begin.
-use Rattle.std.proofs.Common.{◌≡◌, ℕ, suc, zero, ◌+◌, ◌-◌, ◌<◌, ◌≤◌, subst, arith, inl, inr, ◌⊎◌}
+use Rattle.std.proofs.Common.{◌≡◌, ℕ, suc, zero, ◌+◌, ◌-◌, ◌<◌, ◌≤◌, Bool, true, false, cond, subst, arith, inl, inr, ◌⊎◌}
 use Rattle.rest_bound.specs.declared.limits.Limits.{Limits}
 use Rattle.rest_bound.specs.declared.mode.Mode.{Mode}
 use Rattle.rest_bound.specs.declared.walk.Walk.{Walk}
@@ -75,6 +75,11 @@ ends_later plan l m (suc n) p s t latest left i j b c e h y q r =
         | inr g ↦ inr (g.0, (g.1.0, subst (λ k. Closes m (r.0 + 1) k g.1.0) x g.1.1, g.1.2))
       ],
     )
+
+-- less driving in a row before a piece leaves no more after it
+pub streak_by : (d : Bool) (b c : ℕ) → b ≤ c → cond d (b + 1) 0 ≤ cond d (c + 1) 0
+streak_by true b c h = omega arith
+streak_by false b c h = omega arith
 
 -- nothing ends before the step from which its next piece may be done
 pub ends_after : (plan : Plan) (l : Limits) (m : Mode) (n p : ℕ) (w : Walk) (e : ℕ) → Ends plan l m n p w e → w.at ≤ e
