@@ -3,3 +3,4 @@ pub mod Rounding
 pub mod Units
 pub mod StepCounts
 pub mod BoundLaws
+pub mod ShiftLaws

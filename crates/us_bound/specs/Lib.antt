@@ -1,4 +1,5 @@
 pub mod Projection
 pub mod Work
 pub mod LabelEnd
+pub mod ShiftBound
 pub mod Laws

@@ -1,5 +1,5 @@
 //! The bound on the end of a label, and its laws.
-ghost use Rattle.std.specs.Prelude.{◌≡◌, ℕ, ◌≤◌, Bool, Option, Contains};
+ghost use Rattle.std.specs.Prelude.{◌≡◌, ℕ, ◌≤◌, Bool, Option, Some, Contains};
 ghost use Rattle.duty_core.specs.declared.limits.TheConstants.{US_UNBROKEN_LIMIT};
 ghost use Rattle.duty_core.specs.declared.params.Params.TheVariants.{UsProperty};
 ghost use Rattle.duty_core.specs.Params.{allows};
@@ -10,6 +10,7 @@ ghost use Rattle.tour_model.specs.declared.tour.Tour.{Tour as ATour};
 ghost use Rattle.tour_model.specs.declared.label.Label.{Label};
 ghost use Rattle.tour_model.specs.Tour.{IsTour};
 ghost use Rattle.tour_model.specs.Word.{word_of, word_length};
+ghost use Rattle.cert_text.specs.CoverLists.Bound.{ObeysBound};
 ghost use Rattle.cert_text.specs.CoverLists.Planning.{problem_of, state_at};
 ghost use Rattle.cert_text.specs.CoverLists.Laws.ProblemLaws.{IsBound};
 ghost use Rattle.rest_bound.specs.Runs.{AreLimits};
@@ -18,6 +19,7 @@ ghost use Rattle.tour_model.specs.declared.limits.TheConstants.{GRIDS};
 ghost use Rattle.us_bound.specs.Projection.{limits_of};
 ghost use Rattle.us_bound.specs.Work.{plan_by};
 ghost use Rattle.us_bound.specs.LabelEnd.{IsLabelEnd, IsShiftBound};
+ghost use Rattle.us_bound.specs.ShiftBound.{shift_bound};
 ghost use Rattle.us_bound.specs.Laws.StepCounts.{last_step};
 
 use crate::counts::state_counts;
@@ -44,8 +46,10 @@ pub fn label_end(
     requires progress { progress ≤ word_length work.now.tour.now }
     requires split { IsSplitCount state.now.split }
     requires driven { state.now.rest_break.driven ≤ US_UNBROKEN_LIMIT }
-    ensures { (berth : Bool) → table.now.limits ≡ limits_of berth work.now.tour.now.grid →
+    ensures least { (berth : Bool) → table.now.limits ≡ limits_of berth work.now.tour.now.grid →
         IsLabelEnd work.now.tour.now berth table.now.horizon step progress state.now result }
+    ensures value { (berth : Bool) → table.now.limits ≡ limits_of berth work.now.tour.now.grid →
+        shift_bound work.now.tour.now berth table.now.horizon step progress state.now ≡ Some result }
 {
     let piece = progress as usize;
     if state.split.run().long > 0 && !work.idles(piece) {
@@ -59,9 +63,12 @@ pub fn label_end(
 }
 
 /// A bound of labels by the limits of a shift is a bound of the tour's search by the rule book of the
-/// United States: a finished label ends at its step, and no lawful step lowers the bound.
+/// United States: a finished label ends at its step, and no lawful step lowers the bound. This
+/// holds of each function that gives such a bound, and so of `shift_bound`.
 pub fn bound_law()
-    ensures { (tour : ATour) (berth : Bool) (days day_start horizon : ℕ) (bound : ℕ → Label UsState → Option ℕ) → IsTour tour → tour.params ≡ UsProperty berth days day_start →
+    ensures each { (tour : ATour) (berth : Bool) (days day_start horizon : ℕ) (bound : ℕ → Label UsState → Option ℕ) → IsTour tour → tour.params ≡ UsProperty berth days day_start →
         horizon ≤ last_step → IsShiftBound tour berth horizon bound →
         IsBound (problem_of tour (us_book berth days day_start)) (state_at tour (us_book berth days day_start)) (allows tour.params) bound }
+    ensures obeys { (tour : ATour) (berth : Bool) (days day_start horizon : ℕ) → IsTour tour → tour.params ≡ UsProperty berth days day_start →
+        horizon ≤ last_step → ObeysBound tour (us_book berth days day_start) (shift_bound tour berth horizon) }
 {}

@@ -148,9 +148,9 @@ tour_rounds : (tour : Tour) (berth : Bool) (days day_start : ℕ) → IsTour tou
 tour_rounds tour berth days day_start t e = rounds tour.grid (subst (λ p. Contains (grids_of p) tour.grid) e t.grid)
 
 -- A bound of labels by the limits of a shift is a bound.
-pub shift_bound : (tour : Tour) (berth : Bool) (days day_start horizon : ℕ) (bound : ℕ → Label UsState → Option ℕ) → IsTour tour → tour.params ≡ UsProperty berth days day_start → horizon ≤ last_step → IsShiftBound tour berth horizon bound →
+pub is_bound_of_shift : (tour : Tour) (berth : Bool) (days day_start horizon : ℕ) (bound : ℕ → Label UsState → Option ℕ) → IsTour tour → tour.params ≡ UsProperty berth days day_start → horizon ≤ last_step → IsShiftBound tour berth horizon bound →
     IsBound (problem_of tour (us_book berth days day_start)) (state_at tour (us_book berth days day_start)) (allows tour.params) bound
-shift_bound tour berth days day_start horizon bound t params l is = record {
+is_bound_of_shift tour berth days day_start horizon bound t params l is = record {
   full = λ k y ends. (let q = is k y in q.1 ∙ ap Some (label_full tour berth horizon k y.progress y.state q.0 ends q.2));
   before = λ k y x n e here may ok o has. (
       let q = is k y in

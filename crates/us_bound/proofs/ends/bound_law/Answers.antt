@@ -1,5 +1,6 @@
-use Rattle.us_bound.specs.Laws.BoundLaws.{shift_bound}
+use Rattle.us_bound.specs.Laws.BoundLaws.{is_bound_of_shift}
+use Rattle.us_bound.specs.Laws.ShiftLaws.{shift_obeys}
 use Rattle.us_bound.proofs.ends.bound_law.Goals as goal
 
 pub returns : goal.returns
-returns c = λ tour berth days day_start horizon bound t params l is. shift_bound tour berth days day_start horizon bound t params l is
+returns c = record { each = is_bound_of_shift; obeys = shift_obeys }
