@@ -3,6 +3,8 @@ use Rattle.std.specs.Prelude.{ℕ, ◌+◌, ◌-◌, max, Bool, ◌&&◌, not, n
 use Rattle.us_rules.specs.declared.state.UsState.{UsState}
 use Rattle.tour_model.specs.declared.tour.Tour.{Tour}
 use Rattle.tour_model.specs.Word.{word_length, may_idle}
+use Rattle.cert_text.specs.CoverLists.Planning.{eta_bound}
+use Rattle.cert_text.specs.CoverLists.Laws.BoundLaws.{latest}
 use Rattle.rest_bound.specs.LeastEnd.{least_end}
 use Rattle.us_bound.specs.Projection.{counts_of, limits_of}
 use Rattle.us_bound.specs.Work.{plan_of}
@@ -24,3 +26,7 @@ shift_end tour berth horizon k p s =
 -- It is the bound of a label by the limits of a shift. Each label has one.
 abbrev pub shift_bound : Tour → Bool → ℕ → ℕ → ℕ → UsState → Option ℕ
 shift_bound tour berth horizon k p s = Some (shift_end tour berth horizon k p s)
+
+-- The later of it and the earliest end with no rules. None: the work that is left has no end.
+abbrev pub later_bound : Tour → Bool → ℕ → ℕ → ℕ → UsState → Option ℕ
+later_bound tour berth horizon k p s = latest (eta_bound tour k p s) (shift_bound tour berth horizon k p s)

@@ -19,7 +19,7 @@ ghost use Rattle.tour_model.specs.declared.limits.TheConstants.{GRIDS};
 ghost use Rattle.us_bound.specs.Projection.{limits_of};
 ghost use Rattle.us_bound.specs.Work.{plan_by};
 ghost use Rattle.us_bound.specs.LabelEnd.{IsLabelEnd, IsShiftBound};
-ghost use Rattle.us_bound.specs.ShiftBound.{shift_bound};
+ghost use Rattle.us_bound.specs.ShiftBound.{later_bound, shift_bound};
 ghost use Rattle.us_bound.specs.Laws.StepCounts.{last_step};
 
 use crate::counts::state_counts;
@@ -64,11 +64,14 @@ pub fn label_end(
 
 /// A bound of labels by the limits of a shift is a bound of the tour's search by the rule book of the
 /// United States: a finished label ends at its step, and no lawful step lowers the bound. This
-/// holds of each function that gives such a bound, and so of `shift_bound`.
+/// holds of each function that gives such a bound, and so of `shift_bound`; and of the
+/// later of it and the earliest end with no rules.
 pub fn bound_law()
     ensures each { (tour : ATour) (berth : Bool) (days day_start horizon : ℕ) (bound : ℕ → Label UsState → Option ℕ) → IsTour tour → tour.params ≡ UsProperty berth days day_start →
         horizon ≤ last_step → IsShiftBound tour berth horizon bound →
         IsBound (problem_of tour (us_book berth days day_start)) (state_at tour (us_book berth days day_start)) (allows tour.params) bound }
     ensures obeys { (tour : ATour) (berth : Bool) (days day_start horizon : ℕ) → IsTour tour → tour.params ≡ UsProperty berth days day_start →
         horizon ≤ last_step → ObeysBound tour (us_book berth days day_start) (shift_bound tour berth horizon) }
+    ensures later { (tour : ATour) (berth : Bool) (days day_start horizon : ℕ) → IsTour tour → tour.params ≡ UsProperty berth days day_start →
+        horizon ≤ last_step → ObeysBound tour (us_book berth days day_start) (later_bound tour berth horizon) }
 {}

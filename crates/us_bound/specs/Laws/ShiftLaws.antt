@@ -4,12 +4,16 @@ use Rattle.std.specs.Prelude.{Option, None, Some, nat_lt, not, ◌&&◌, if◌th
 use Rattle.std.proofs.lemmas.Bool.{cases_lt}
 use Rattle.std.proofs.lemmas.Bool.Decides.{nat_tests}
 use Rattle.duty_core.specs.declared.params.Params.TheVariants.{UsProperty}
+use Rattle.duty_core.specs.Params.{allows}
 use Rattle.us_rules.specs.declared.state.UsState.{UsState}
 use Rattle.us_rules.specs.Book.{us_book}
 use Rattle.tour_model.specs.declared.tour.Tour.{Tour}
 use Rattle.tour_model.specs.Tour.{IsTour}
 use Rattle.tour_model.specs.Word.{word_length, may_idle}
 use Rattle.cert_text.specs.CoverLists.Bound.{ObeysBound}
+use Rattle.cert_text.specs.CoverLists.Planning.{eta_bound, problem_by, state_at}
+use Rattle.cert_text.specs.CoverLists.Laws.BoundLaws.{both_bound}
+use Rattle.cert_text.specs.CoverLists.Laws.ProblemOf.{eta_obeys}
 use Rattle.rest_bound.specs.declared.limits.Limits.{Limits}
 use Rattle.rest_bound.specs.declared.counts.Counts.{Counts}
 use Rattle.rest_bound.specs.Ends.{Plan}
@@ -22,7 +26,7 @@ use Rattle.us_bound.specs.Work.{plan_of}
 use Rattle.us_bound.specs.LabelEnd.{IsCountsEnd, IsLabelEnd, IsShiftBound}
 use Rattle.us_bound.specs.Laws.StepCounts.{last_step}
 use Rattle.us_bound.specs.Laws.BoundLaws.{is_bound_of_shift}
-use Rattle.us_bound.specs.ShiftBound.{end_or_after, shift_end, shift_bound}
+use Rattle.us_bound.specs.ShiftBound.{end_or_after, shift_end, shift_bound, later_bound}
 
 -- a least end up to the horizon, as the bound of counts
 counts_end : (plan : Plan) (l : Limits) (n p k : ℕ) (c : Counts) (horizon : ℕ) (o : Option ℕ) → IsLeast (CanEnd plan l n p k c) horizon o → IsCountsEnd plan l n p k c horizon (end_or_after horizon k o)
@@ -71,3 +75,12 @@ pub shift_obeys : (tour : Tour) (berth : Bool) (days day_start horizon : ℕ) �
 shift_obeys tour berth days day_start horizon t params l =
     let b = is_bound_of_shift tour berth days day_start horizon (λ k y. shift_bound tour berth horizon k y.progress y.state) t params l (shift_bound_is tour berth horizon) in
     record { full = b.full; before = b.before }
+
+-- So is the later of it and the earliest end with no rules.
+pub later_obeys : (tour : Tour) (berth : Bool) (days day_start horizon : ℕ) → IsTour tour → tour.params ≡ UsProperty berth days day_start → horizon ≤ last_step → ObeysBound tour (us_book berth days day_start) (later_bound tour berth horizon)
+later_obeys tour berth days day_start horizon t params l =
+    let m = us_book berth days day_start in
+    let e = eta_obeys tour m in
+    let b = shift_obeys tour berth days day_start horizon t params l in
+    both_bound (problem_by tour m (later_bound tour berth horizon)) (state_at tour m) (allows tour.params) (λ k y. eta_bound tour k y.progress y.state) (λ k y. shift_bound tour berth horizon k y.progress y.state)
+    (record { full = e.full; before = e.before }) (record { full = b.full; before = b.before })
