@@ -4,6 +4,7 @@
 
 mod counts;
 mod ends;
+mod later;
 mod limits;
 mod steps;
 #[cfg(test)]
@@ -12,6 +13,7 @@ mod tour_work;
 
 pub use counts::state_counts;
 pub use ends::{bound_law, label_end};
+pub use later::LaterBound;
 pub use limits::shift_limits;
 pub use steps::MOST_GRID;
 pub use tour_work::TourWork;

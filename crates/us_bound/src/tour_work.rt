@@ -14,7 +14,7 @@ use tour_model::{Piece, Tour, Window};
 /// A tour, as the bound reads it, with the pieces of its work one by one.
 #[derive(Drop)]
 pub struct TourWork<'a> {
-    tour: &'a Tour,
+    pub(crate) tour: &'a Tour,
     pieces: Vec<Piece>,
 }
 

@@ -1,6 +1,6 @@
 -- The bound of a label as a function is its bound, and a label has only one.
-use Rattle.std.proofs.Common.{◌≡◌, ℕ, ◌-◌, ◌≤◌, Bool, true, false, refl, sym, ◌∙◌, ap, arith, inl, inr}
-use Rattle.std.specs.Prelude.{Option, None, Some, nat_lt, not, ◌&&◌, if◌then◌else◌}
+use Rattle.std.proofs.Common.{◌≡◌, ℕ, ◌-◌, ◌≤◌, Bool, true, false, refl, sym, ◌∙◌, ap, arith, inl, inr, max}
+use Rattle.std.specs.Prelude.{List, Option, None, Some, nat_lt, not, ◌&&◌, if◌then◌else◌}
 use Rattle.std.proofs.lemmas.Bool.{cases_lt}
 use Rattle.std.proofs.lemmas.Bool.Decides.{nat_tests}
 use Rattle.duty_core.specs.declared.params.Params.TheVariants.{UsProperty}
@@ -8,12 +8,15 @@ use Rattle.duty_core.specs.Params.{allows}
 use Rattle.us_rules.specs.declared.state.UsState.{UsState}
 use Rattle.us_rules.specs.Book.{us_book}
 use Rattle.tour_model.specs.declared.tour.Tour.{Tour}
+use Rattle.tour_model.specs.Laws.WindowLaws.{IsBy}
 use Rattle.tour_model.specs.Tour.{IsTour}
 use Rattle.tour_model.specs.Word.{word_length, may_idle}
-use Rattle.cert_text.specs.CoverLists.Bound.{ObeysBound}
+use Rattle.cert_text.specs.CoverLists.Bound.{IsBoundOf, ObeysBound}
 use Rattle.cert_text.specs.CoverLists.Planning.{eta_bound, problem_by, state_at}
-use Rattle.cert_text.specs.CoverLists.Laws.BoundLaws.{both_bound}
+use Rattle.cert_text.specs.CoverLists.Laws.BoundLaws.{both_bound, latest}
 use Rattle.cert_text.specs.CoverLists.Laws.ProblemOf.{eta_obeys}
+use Rattle.tour_model.specs.declared.piece.Piece.{Piece}
+use Rattle.rest_bound.specs.declared.table.Table.{Table}
 use Rattle.rest_bound.specs.declared.limits.Limits.{Limits}
 use Rattle.rest_bound.specs.declared.counts.Counts.{Counts}
 use Rattle.rest_bound.specs.Ends.{Plan}
@@ -27,6 +30,7 @@ use Rattle.us_bound.specs.LabelEnd.{IsCountsEnd, IsLabelEnd, IsShiftBound}
 use Rattle.us_bound.specs.Laws.StepCounts.{last_step}
 use Rattle.us_bound.specs.Laws.BoundLaws.{is_bound_of_shift}
 use Rattle.us_bound.specs.ShiftBound.{end_or_after, shift_end, shift_bound, later_bound}
+use Rattle.us_bound.specs.LaterBounds.{IsReady, later_bounds}
 
 -- a least end up to the horizon, as the bound of counts
 counts_end : (plan : Plan) (l : Limits) (n p k : ℕ) (c : Counts) (horizon : ℕ) (o : Option ℕ) → IsLeast (CanEnd plan l n p k c) horizon o → IsCountsEnd plan l n p k c horizon (end_or_after horizon k o)
@@ -84,3 +88,16 @@ later_obeys tour berth days day_start horizon t params l =
     let b = shift_obeys tour berth days day_start horizon t params l in
     both_bound (problem_by tour m (later_bound tour berth horizon)) (state_at tour m) (allows tour.params) (λ k y. eta_bound tour k y.progress y.state) (λ k y. shift_bound tour berth horizon k y.progress y.state)
     (record { full = e.full; before = e.before }) (record { full = b.full; before = b.before })
+
+later_early : (a b : Option ℕ) (e : ℕ) → latest a b ≡ Some e → IsBy a e
+later_early None b e h = absurd cc
+later_early (Some x) None e h = absurd cc
+later_early (Some x) (Some y) e h = let q : max x y ≡ e = cc in record { at = x; is = refl; by = omega arith }
+
+-- It may be asked of each label of the tour.
+pub later_is_bound : (tour : Tour) (berth : Bool) (days day_start : ℕ) (pieces : List Piece) (table : Table) → IsTour tour → IsReady tour berth pieces table → IsBoundOf tour (us_book berth days day_start) (later_bounds tour berth pieces table)
+later_is_bound tour berth days day_start pieces table t ready = record {
+  asked_early = λ step progress few within. (t, within, few);
+  asked = λ step progress s few within there. (ready, within, there.split.is_count, there.driven);
+  sooner = λ step progress s e few within there is. later_early (eta_bound tour step progress s) (shift_bound tour berth table.horizon step progress s) e is;
+}
